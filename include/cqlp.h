@@ -94,7 +94,7 @@
 
 /* How the structs below lie in memory: a number that is another one where any of them lies otherwise. The calls that make a handle or are given none
  * (cqlp_new, cqlp_new_lenient, cqlp_check, cqlp_types_of, cqlp_take_given, cqlp_columns_new, cqlp_client_new, cqlp_server_new, cqlp_write_header,
- * cqlp_encode, cqlp_page_measure, cqlp_page_begin) tell it to the library. One whose structs lie otherwise answers CQLP_OTHER_LAYOUT and touches none of
+ * cqlp_encode, cqlp_page_measure, cqlp_page_begin) pass it to the library. A library whose structs lie otherwise answers CQLP_OTHER_LAYOUT and touches none of
  * the caller's; so does each to a program that was compiled with a header without this number. A wrapper in another language makes these calls by
  * their names with _by_layout, as at the end of this file, with the number of the layout that it has itself. */
 #define CQLP_LAYOUT 0xCF3119DD
@@ -115,7 +115,7 @@ extern "C" {
 #define CQLP_NO_CLIENT 8             /* the handle has no client's core */
 #define CQLP_BAD_SLOTS 9             /* the number of slots is not from 1 to 32768 */
 #define CQLP_NO_REQUEST 10           /* the opcode is no request's */
-#define CQLP_BAD_PHASE 11            /* requests of this kind may not begin in the phase that stands */
+#define CQLP_BAD_PHASE 11            /* requests of this kind may not begin in the current phase */
 #define CQLP_SPENT 12                /* 2^64 - 1 requests have begun */
 #define CQLP_FULL 13                 /* each slot has a request that waits for its reply */
 #define CQLP_NO_FRAME 14             /* the event is none that begins a frame */
@@ -691,8 +691,8 @@ static inline uint32_t cqlp_columns_new(const cqlp_batch_limits *limits, const u
  * Answers CQLP_DONE; else nothing changes: CQLP_NO_DECODER, or CQLP_NO_COLUMNS. */
 uint32_t cqlp_columns_next(cqlp_decoder *decoder, cqlp_columns *columns, const uint8_t *input, size_t length, cqlp_event *event, cqlp_batch *batch);
 
-/* Tells where the arrays of a column lie, the first of number 0. They lie there for as long as the handle has columns, and stay as they are until the
- * next call on the handle but this one.
+/* Puts into `view` where the arrays of a column lie; the first column is number 0. They lie there for as long as the handle has columns, and stay as
+ * they are until the next call on the handle other than this one.
  * Answers CQLP_DONE; else `view` is as it was: CQLP_NO_COLUMNS, or CQLP_NO_COLUMN. */
 uint32_t cqlp_columns_get(cqlp_columns *columns, size_t column, cqlp_column *view);
 
@@ -712,7 +712,7 @@ static inline uint32_t cqlp_client_new(uint32_t slots, cqlp_client *client);
 
 /* Begins a request of the kind that has this opcode, and puts its ticket: the least stream id that is free, and the next
  * number. Send its message, whose header has this id, in the order in which requests begin. `carried` is any number of the
- * caller's: the reply to this request tells it again.
+ * caller's, which is returned with the reply to this request.
  * Answers CQLP_DONE; else nothing changes, and the first of these that is so: CQLP_NO_CLIENT, CQLP_NO_REQUEST,
  * CQLP_BAD_PHASE, CQLP_SPENT, CQLP_FULL. */
 uint32_t cqlp_client_begin(cqlp_client *client, uint8_t opcode, uint64_t carried, cqlp_ticket *ticket);
@@ -745,7 +745,7 @@ uint32_t cqlp_client_free(cqlp_client *client);
 static inline uint32_t cqlp_server_new(uint32_t slots, cqlp_server *server);
 
 /* Takes the event of a frame that came, one with CQLP_TAG_FRAME as cqlp_next put it, as a request. Its stream id is taken until it
- * is answered. `carried` is any number of the caller's: the answer to this request tells it again.
+ * is answered. `carried` is any number of the caller's, which is returned with the answer to this request.
  * Answers CQLP_DONE; else nothing changes, and the first of these that is so: CQLP_NO_SERVER, CQLP_NO_FRAME,
  * CQLP_NOT_REQUEST, CQLP_BAD_ID, CQLP_ID_TAKEN, CQLP_BAD_PHASE. */
 uint32_t cqlp_server_accept(cqlp_server *server, const cqlp_event *frame, uint64_t carried);
@@ -787,7 +787,7 @@ static inline uint32_t cqlp_write_header(const cqlp_header *fields, uint8_t byte
  * CQLP_TAG_BOUND with CQLP_MARK_NONE, and of each CQLP_TAG_LEAF of the kinds custom, ascii, blob, decimal, varchar, varint and raw, as many bytes
  * as its `length` says. No pointer in an event is followed. The members that a tag does not use are not looked at, nor are offsets, the length of
  * the body in CQLP_TAG_FRAME, which is counted, and the number of an end: bytes after the last field are left out. Of an address `octets` says
- * whether it has 4 or 16 bytes. The cells of a page have the types that its columns tell, and are raw where none are told.
+ * whether it has 4 or 16 bytes. The cells of a page have the types of its columns, and are raw where the page describes none.
  * Where there is no event, no content or no room, its pointer may be null. It asks for memory for a copy of the contents, for each event, for the
  * values of a page, and for the bytes of the frame, and gives all of it back.
  * Answers CQLP_DONE, and the bytes after the frame are as they were; what was written is read as these events by a decoder whose limits allow it.
@@ -811,7 +811,7 @@ static inline uint32_t cqlp_encode(const cqlp_event *events, size_t count, const
  * before it is written: the caller goes over the events of the cells twice. What is held between two calls is the head alone. What all calls have put,
  * one after the other, once cqlp_page_end answers CQLP_DONE, is the frame that has these events, and what cqlp_encode writes of them.
  *
- * Adds to `size` how many bytes of a page these events tell of: none but those of cells tell of any. It asks for no memory. `size` is 2^64 - 1 where
+ * Adds to `size` how many bytes of a page these events take up: only events of cells take up any. It asks for no memory. `size` is 2^64 - 1 where
  * it would be more.
  * Answers CQLP_DONE; else `size` is as it was: CQLP_UNBUILT or CQLP_NO_EVENT, as in cqlp_encode, of the event that `event` names. */
 static inline uint32_t cqlp_page_measure(const cqlp_event *events, size_t count, const uint8_t *contents, size_t length, cqlp_measured *measured);
@@ -830,7 +830,7 @@ static inline uint32_t cqlp_page_begin(const cqlp_event *events, size_t count, c
                                        uint8_t *bytes, size_t room, cqlp_page *page, cqlp_encoded *begun);
 
 /* Puts the next cells of a page, each whole, and says how many events they have and how many bytes. It goes on over all events, or stops at the first
- * that is refused, or whose cell has no room. The cells before are put, and the page stands behind them; of the cell that is refused nothing is put, and
+ * that is refused, or whose cell has no room. The cells before are put, and the page goes on behind them; of the cell that is refused nothing is put, and
  * the bytes after those that were put are as they were. Events of a cell that is not put are given again, from its first on. It asks for memory for
  * one cell, and gives it back.
  * Answers CQLP_DONE where the last event ends a cell, or there is none. Else
@@ -861,7 +861,7 @@ const char *cqlp_name(uint32_t group, int64_t number);
 const char *cqlp_version(void);
 uint32_t cqlp_version_number(void);
 
-/* What the calls above are that tell the layout to the library. */
+/* How the calls above pass the layout to the library. */
 uint32_t cqlp_new_by_layout(uint32_t layout, const cqlp_limits *limits, cqlp_decoder *decoder);
 static inline uint32_t cqlp_new(const cqlp_limits *limits, cqlp_decoder *decoder) {
   return cqlp_new_by_layout(CQLP_LAYOUT, limits, decoder);

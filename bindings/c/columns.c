@@ -12,13 +12,13 @@ static const uint8_t PAGE[] =
     "\x84\0\0\1\x08\0\0\0\122\0\0\0\2\0\0\0\1\0\0\0\3\0\1k\0\1t\0\1a\0\x09\0\1b\0\x0d\0\1c\0\4\0\0\0\3"
     "\0\0\0\4\0\0\0\1\0\0\0\3abc\0\0\0\1\1\xff\xff\xff\xff\0\0\0\0\0\0\0\0\0\0\0\0\xff\xff\xff\xff\0\0\0\1\0";
 
-typedef struct told {
+typedef struct totals {
   seen others;
   uint64_t arrays; /* a sum of all arrays, batch by batch */
   size_t batches, cells;
-} told;
+} totals;
 
-static void see_arrays(told *told, cqlp_columns *columns, int print) {
+static void see_arrays(totals *totals, cqlp_columns *columns, int print) {
   cqlp_column column;
   for (size_t k = 0; k < 3; k++) {
     CHECK(cqlp_columns_get(columns, k, &column) == CQLP_DONE && column.kind == KINDS[k]);
@@ -26,11 +26,11 @@ static void see_arrays(told *told, cqlp_columns *columns, int print) {
     const uintptr_t places[] = {column.size ? (uintptr_t)column.values : 0, column.bounds ? (uintptr_t)column.offsets : 0,
                                 bits ? (uintptr_t)column.validity : 0, bits ? (uintptr_t)column.empties : 0};
     for (size_t i = 0; i < 4; i++) CHECK(places[i] % _Alignof(max_align_t) == 0);
-    told->arrays = add(told->arrays, column.values, column.size);
-    told->arrays = add(told->arrays, (const uint8_t *)column.offsets, column.bounds * sizeof *column.offsets);
-    told->arrays = add(told->arrays, column.validity, bits);
-    told->arrays = add(told->arrays, column.empties, bits);
-    told->cells += column.cells;
+    totals->arrays = add(totals->arrays, column.values, column.size);
+    totals->arrays = add(totals->arrays, (const uint8_t *)column.offsets, column.bounds * sizeof *column.offsets);
+    totals->arrays = add(totals->arrays, column.validity, bits);
+    totals->arrays = add(totals->arrays, column.empties, bits);
+    totals->cells += column.cells;
     if (!print) continue;
     printf("column %zu: %zu cells, values", k, column.cells);
     for (size_t i = 0; i < column.size; i++) printf(" %u", column.values[i]);
@@ -39,11 +39,11 @@ static void see_arrays(told *told, cqlp_columns *columns, int print) {
     printf(", valid %u, empty %u\n", bits ? column.validity[0] : 0, bits ? column.empties[0] : 0);
   }
   CHECK(cqlp_columns_get(columns, 3, &column) == CQLP_NO_COLUMN);
-  told->batches++;
+  totals->batches++;
 }
 
 /* Gives a piece, copied so that nothing beside it is read. */
-static void give_piece(cqlp_decoder *decoder, cqlp_columns *columns, const uint8_t *piece, size_t length, told *told, int print) {
+static void give_piece(cqlp_decoder *decoder, cqlp_columns *columns, const uint8_t *piece, size_t length, totals *totals, int print) {
   uint8_t *copy = malloc(length + !length);
   CHECK(copy);
   memcpy(copy, piece, length);
@@ -58,11 +58,11 @@ static void give_piece(cqlp_decoder *decoder, cqlp_columns *columns, const uint8
     if (batch.stop == CQLP_STOP_MORE) break;
     CHECK(batch.stop == CQLP_STOP_FULL);
     if (batch.events) {
-      see(&told->others, &event);
+      see(&totals->others, &event);
     } else {
       CHECK(cqlp_columns_next(decoder, columns, copy + used, length - used, &event, &batch) == CQLP_DONE);
       CHECK(batch.used == 0 && batch.events == 0 && batch.stop == CQLP_STOP_FULL);
-      see_arrays(told, columns, print);
+      see_arrays(totals, columns, print);
       CHECK(cqlp_columns_clear(columns) == CQLP_DONE);
     }
   }
@@ -70,30 +70,30 @@ static void give_piece(cqlp_decoder *decoder, cqlp_columns *columns, const uint8
   free(copy);
 }
 
-static told read_page(const uint8_t *kinds, const size_t *ends, size_t pieces, int print) {
-  told told = {{0, 0}, 0, 0, 0};
+static totals read_page(const uint8_t *kinds, const size_t *ends, size_t pieces, int print) {
+  totals totals = {{0, 0}, 0, 0, 0};
   cqlp_decoder decoder = CQLP_NO_DECODER_YET;
   cqlp_columns columns = CQLP_NO_COLUMNS_YET;
   CHECK(cqlp_new(&LIMITS, &decoder) == CQLP_DONE);
   CHECK(cqlp_columns_new(&BATCH, kinds, 3, &columns) == CQLP_DONE);
   size_t from = 0;
-  for (size_t i = 0; i < pieces; from = ends[i], i++) give_piece(&decoder, &columns, PAGE + from, ends[i] - from, &told, print);
-  if (kinds == KINDS) see_arrays(&told, &columns, print);
+  for (size_t i = 0; i < pieces; from = ends[i], i++) give_piece(&decoder, &columns, PAGE + from, ends[i] - from, &totals, print);
+  if (kinds == KINDS) see_arrays(&totals, &columns, print);
   CHECK(cqlp_columns_free(&columns) == CQLP_DONE && cqlp_free(&decoder) == CQLP_DONE);
-  return told;
+  return totals;
 }
 
 static void cuts(void) {
   enum { LENGTH = sizeof PAGE - 1 };
   const size_t all[] = {LENGTH};
-  told whole = read_page(KINDS, all, 1, 1);
+  totals whole = read_page(KINDS, all, 1, 1);
   printf("%zu batches, %zu cells, %zu other events\n", whole.batches, whole.cells, whole.others.events);
   size_t each[LENGTH];
   for (size_t i = 0; i < LENGTH; i++) each[i] = i + 1;
   for (size_t cut = 0; cut <= LENGTH + 1; cut++) {
     const size_t two[] = {cut, LENGTH};
-    told told = cut <= LENGTH ? read_page(KINDS, two, 2, 0) : read_page(KINDS, each, LENGTH, 0);
-    CHECK(memcmp(&told, &whole, sizeof told) == 0);
+    totals totals = cut <= LENGTH ? read_page(KINDS, two, 2, 0) : read_page(KINDS, each, LENGTH, 0);
+    CHECK(memcmp(&totals, &whole, sizeof totals) == 0);
   }
   /* Cells of another kind are other events, with their contents. */
   const uint8_t ints[] = {CQLP_KIND_INT, CQLP_KIND_INT, CQLP_KIND_INT};
@@ -101,8 +101,8 @@ static void cuts(void) {
   printf("of other kinds: %zu other events\n", whole.others.events);
   for (size_t cut = 0; cut <= LENGTH; cut++) {
     const size_t two[] = {cut, LENGTH};
-    told told = read_page(ints, two, 2, 0);
-    CHECK(memcmp(&told.others, &whole.others, sizeof told.others) == 0);
+    totals totals = read_page(ints, two, 2, 0);
+    CHECK(memcmp(&totals.others, &whole.others, sizeof totals.others) == 0);
   }
 }
 

@@ -8,11 +8,11 @@
 enum { MOST = 128, LONG = 4096 };
 
 /* The events of a frame, and their contents one after the other. */
-typedef struct told {
+typedef struct frame {
   cqlp_event events[MOST];
   uint8_t contents[LONG];
   size_t count, length;
-} told;
+} frame;
 
 static int has_content(const cqlp_event *event) {
   int may_be_null = event->tag == CQLP_TAG_BYTES || event->tag == CQLP_TAG_BOUND;
@@ -26,29 +26,29 @@ static int has_content(const cqlp_event *event) {
   return event->tag == CQLP_TAG_TEXT || (may_be_null && event->mark == CQLP_MARK_NONE);
 }
 
-static void note(told *told, const cqlp_event *event) {
-  CHECK(told->count < MOST && event->length <= LONG - told->length);
-  told->events[told->count] = *event;
-  told->events[told->count++].content = NULL;
+static void note(frame *frame, const cqlp_event *event) {
+  CHECK(frame->count < MOST && event->length <= LONG - frame->length);
+  frame->events[frame->count] = *event;
+  frame->events[frame->count++].content = NULL;
   if (!has_content(event)) return;
-  memcpy(told->contents + told->length, event->content, event->length);
-  told->length += event->length;
+  memcpy(frame->contents + frame->length, event->content, event->length);
+  frame->length += event->length;
 }
 
 /* Calls cqlp_encode with this much room, and looks at what it leaves after what it says it wrote. */
-static uint32_t encode(const told *told, size_t room, uint8_t **bytes, cqlp_encoded *encoded) {
-  cqlp_event *events = edge(EVENTS, told->count * sizeof *events);
-  uint8_t *contents = edge(PIECE, told->length);
+static uint32_t encode(const frame *frame, size_t room, uint8_t **bytes, cqlp_encoded *encoded) {
+  cqlp_event *events = edge(EVENTS, frame->count * sizeof *events);
+  uint8_t *contents = edge(PIECE, frame->length);
   *bytes = edge(BYTES, room);
-  memcpy(events, told->events, told->count * sizeof *events);
-  memcpy(contents, told->contents, told->length);
+  memcpy(events, frame->events, frame->count * sizeof *events);
+  memcpy(contents, frame->contents, frame->length);
   memset(*bytes, 0xA5, room);
   memset(encoded, 0xA5, sizeof *encoded);
-  uint32_t code = cqlp_encode(events, told->count, contents, told->length, *bytes, room, encoded);
-  CHECK(encoded->event <= told->count);
+  uint32_t code = cqlp_encode(events, frame->count, contents, frame->length, *bytes, room, encoded);
+  CHECK(encoded->event <= frame->count);
   for (size_t i = code == CQLP_DONE ? encoded->length : 0; i < room; i++) CHECK((*bytes)[i] == 0xA5);
   if (code == CQLP_DONE || code == CQLP_NO_ROOM) {
-    CHECK(encoded->event == told->count && encoded->length >= 9);
+    CHECK(encoded->event == frame->count && encoded->length >= 9);
     CHECK((code == CQLP_DONE) == (encoded->length <= room));
   } else {
     CHECK(encoded->length == 0);
@@ -56,7 +56,7 @@ static uint32_t encode(const told *told, size_t room, uint8_t **bytes, cqlp_enco
   return code;
 }
 
-/* What is told of a scalar of a cell. */
+/* The members of the event of a scalar cell that its kind uses. */
 static cqlp_event plain_scalar(const cqlp_event *event, cqlp_event of) {
   size_t octets = 0;
   switch (event->kind) {
@@ -73,7 +73,7 @@ static cqlp_event plain_scalar(const cqlp_event *event, cqlp_event of) {
   return of;
 }
 
-/* What is told of a cell; the end of a value names none. */
+/* The members of the event of a cell that its tag uses; the end of a value names no cell. */
 static cqlp_event plain_cell(const cqlp_event *event, cqlp_event of) {
   of.level = event->level;
   if (event->tag == CQLP_TAG_ENTER || event->tag == CQLP_TAG_LEAVE) of.number = event->number;
@@ -84,7 +84,7 @@ static cqlp_event plain_cell(const cqlp_event *event, cqlp_event of) {
   return event->tag == CQLP_TAG_LEAF ? plain_scalar(event, of) : of;
 }
 
-/* What is told of a field, without what its tag has no use for, offsets, and lengths of frames. */
+/* An event with the members that its tag uses, without offsets and lengths of frames. */
 static cqlp_event plain(const cqlp_event *event) {
   cqlp_event of = {0};
   of.tag = event->tag;
@@ -115,7 +115,7 @@ static cqlp_event plain(const cqlp_event *event) {
 }
 
 /* The bytes are a frame, of which just these events are read. */
-static void check_read(const told *told, const uint8_t *bytes, size_t length) {
+static void check_read(const frame *frame, const uint8_t *bytes, size_t length) {
   static cqlp_event events[MOST];
   cqlp_limits limits = {LONG, LONG, MOST, 64, 1, 0};
   cqlp_decoder decoder = CQLP_NO_DECODER_YET;
@@ -127,68 +127,68 @@ static void check_read(const told *told, const uint8_t *bytes, size_t length) {
     CHECK(cqlp_next(&decoder, bytes + used, length - used, events, MOST, &batch) == CQLP_DONE);
     used += batch.used;
     for (size_t i = 0; i < batch.events; i++, count++) {
-      if (count == told->count) {
+      if (count == frame->count) {
         CHECK(events[i].tag == CQLP_TAG_END);
         continue;
       }
-      CHECK(count < told->count);
-      cqlp_event read = plain(&events[i]), given = plain(&told->events[count]);
+      CHECK(count < frame->count);
+      cqlp_event read = plain(&events[i]), given = plain(&frame->events[count]);
       CHECK(memcmp(&read, &given, offsetof(cqlp_event, octets) + 1) == 0);
-      CHECK(given.length == 0 || memcmp(events[i].content, told->contents + at, given.length) == 0);
+      CHECK(given.length == 0 || memcmp(events[i].content, frame->contents + at, given.length) == 0);
       at += given.length;
     }
   } while (batch.stop == CQLP_STOP_FULL);
-  CHECK(count == told->count || (count == told->count + 1 && told->events[told->count - 1].tag != CQLP_TAG_END));
-  CHECK(at == told->length);
+  CHECK(count == frame->count || (count == frame->count + 1 && frame->events[frame->count - 1].tag != CQLP_TAG_END));
+  CHECK(at == frame->length);
   CHECK(cqlp_finish(&decoder, &end) == CQLP_DONE && end.verdict == CQLP_END_WHOLE && end.bytes == length);
   CHECK(cqlp_free(&decoder) == CQLP_DONE);
 }
 
 /* Whether an event has this tag. */
-static int has_tag(const told *told, uint8_t tag) {
-  for (size_t i = 0; i < told->count; i++)
-    if (told->events[i].tag == tag) return 1;
+static int has_tag(const frame *frame, uint8_t tag) {
+  for (size_t i = 0; i < frame->count; i++)
+    if (frame->events[i].tag == tag) return 1;
   return 0;
 }
 
 static size_t same, others, parts, untyped;
 
 /* A whole frame as it came, and what is written of its events, in all rooms that are too short, and in two that are not. */
-static void write_again(const char *name, const cqlp_limits *limits, const told *told, const uint8_t *frame, size_t length) {
+static void write_again(const char *name, const cqlp_limits *limits, const frame *frame, const uint8_t *original, size_t length) {
   uint8_t *bytes;
   cqlp_encoded encoded;
-  uint32_t code = encode(told, length, &bytes, &encoded);
-  if (has_tag(told, CQLP_TAG_PART)) {
-    CHECK(code == CQLP_UNBUILT && told->events[encoded.event].tag == CQLP_TAG_PART);
+  uint32_t code = encode(frame, length, &bytes, &encoded);
+  if (has_tag(frame, CQLP_TAG_PART)) {
+    CHECK(code == CQLP_UNBUILT && frame->events[encoded.event].tag == CQLP_TAG_PART);
     parts++;
     return;
   }
-  if (!limits->types && has_tag(told, CQLP_TAG_TYPE_NODE)) {
+  if (!limits->types && has_tag(frame, CQLP_TAG_TYPE_NODE)) {
     CHECK(code == CQLP_NO_SUCH_FRAME);
     untyped++;
     return;
   }
   CHECK(code == CQLP_DONE);
-  check_read(told, bytes, encoded.length);
-  if (encoded.length == length && memcmp(bytes, frame, length) == 0) {
+  check_read(frame, bytes, encoded.length);
+  if (encoded.length == length && memcmp(bytes, original, length) == 0) {
     same++;
   } else {
-    printf("%s: %s, %zu bytes of %zu\n", name, cqlp_name(CQLP_GROUP_OPCODE, told->events[0].opcode), encoded.length, length);
+    printf("%s: %s, %zu bytes of %zu\n", name, cqlp_name(CQLP_GROUP_OPCODE, frame->events[0].opcode), encoded.length, length);
     others++;
   }
   size_t wanted = encoded.length;
   for (size_t room = 0; room < wanted; room++) {
-    CHECK(encode(told, room, &bytes, &encoded) == CQLP_NO_ROOM && encoded.length == wanted);
+    CHECK(encode(frame, room, &bytes, &encoded) == CQLP_NO_ROOM && encoded.length == wanted);
   }
-  CHECK(encode(told, wanted + 1, &bytes, &encoded) == CQLP_DONE && encoded.length == wanted);
+  CHECK(encode(frame, wanted + 1, &bytes, &encoded) == CQLP_DONE && encoded.length == wanted);
 }
 
 /* The whole frames that were written, to be changed. */
 enum { FRAMES = 256 };
-static told *frames[FRAMES];
+static frame *frames[FRAMES];
 static size_t kept;
 
-static void keep(const told *whole) {
+static void keep(const frame *whole) {
   CHECK(kept < FRAMES);
   frames[kept] = malloc(sizeof **frames);
   CHECK(frames[kept]);
@@ -196,7 +196,7 @@ static void keep(const told *whole) {
 }
 
 static void write_stream(const char *name, const cqlp_limits *limits, const uint8_t *stream, size_t length) {
-  static told told;
+  static frame frame;
   cqlp_decoder decoder = CQLP_NO_DECODER_YET;
   cqlp_event event;
   cqlp_batch batch = {0};
@@ -208,13 +208,13 @@ static void write_stream(const char *name, const cqlp_limits *limits, const uint
     used += batch.used;
     if (!batch.events) continue;
     if (event.tag == CQLP_TAG_FRAME) {
-      told.count = told.length = 0;
+      frame.count = frame.length = 0;
       from = (size_t)event.at;
     }
-    note(&told, &event);
+    note(&frame, &event);
     if (event.tag != CQLP_TAG_END) continue;
-    write_again(name, limits, &told, stream + from, (size_t)event.at - from);
-    keep(&told);
+    write_again(name, limits, &frame, stream + from, (size_t)event.at - from);
+    keep(&frame);
   } while (batch.stop == CQLP_STOP_FULL);
   CHECK(cqlp_free(&decoder) == CQLP_DONE);
 }
@@ -231,145 +231,145 @@ static size_t below(size_t bound) {
 
 /* ---- prepared statements */
 
-static void tell(told *told, cqlp_event event) {
-  CHECK(told->count < MOST);
-  told->events[told->count++] = event;
+static void append(frame *frame, cqlp_event event) {
+  CHECK(frame->count < MOST);
+  frame->events[frame->count++] = event;
 }
 
-static void tell_number(told *told, uint8_t tag, uint8_t field, int64_t number) {
-  tell(told, (cqlp_event){.tag = tag, .field = field, .number = number});
+static void append_number(frame *frame, uint8_t tag, uint8_t field, int64_t number) {
+  append(frame, (cqlp_event){.tag = tag, .field = field, .number = number});
 }
 
 /* A text of no to three bytes. */
-static void tell_text(told *told, uint8_t field) {
+static void append_text(frame *frame, uint8_t field) {
   size_t length = below(4);
-  CHECK(length <= LONG - told->length);
-  for (size_t i = 0; i < length; i++) told->contents[told->length++] = (uint8_t)('a' + below(26));
-  tell(told, (cqlp_event){.tag = CQLP_TAG_TEXT, .field = field, .length = length});
+  CHECK(length <= LONG - frame->length);
+  for (size_t i = 0; i < length; i++) frame->contents[frame->length++] = (uint8_t)('a' + below(26));
+  append(frame, (cqlp_event){.tag = CQLP_TAG_TEXT, .field = field, .length = length});
 }
 
-static void tell_type(told *told, unsigned nested);
+static void append_type(frame *frame, unsigned nested);
 
 /* The types of the items of a tuple, or of the fields of a user-defined type, which have names. */
-static void tell_types(told *told, unsigned nested, int named) {
+static void append_types(frame *frame, unsigned nested, int named) {
   size_t count = below(4);
-  tell_number(told, CQLP_TAG_COUNT, CQLP_FIELD_FIELDS, (int64_t)count);
+  append_number(frame, CQLP_TAG_COUNT, CQLP_FIELD_FIELDS, (int64_t)count);
   for (size_t i = 0; i < count; i++) {
-    if (named) tell_text(told, CQLP_FIELD_FIELD_NAME);
-    tell_type(told, nested + 1);
+    if (named) append_text(frame, CQLP_FIELD_FIELD_NAME);
+    append_type(frame, nested + 1);
   }
 }
 
-static void tell_kind(told *told, uint8_t kind) {
-  tell(told, (cqlp_event){.tag = CQLP_TAG_TYPE_NODE, .kind = kind});
+static void append_kind(frame *frame, uint8_t kind) {
+  append(frame, (cqlp_event){.tag = CQLP_TAG_TYPE_NODE, .kind = kind});
 }
 
 /* A type of any kind; of those with items only while there are few events. */
-static void tell_type(told *told, unsigned nested) {
+static void append_type(frame *frame, unsigned nested) {
   static const uint8_t KINDS[] = {
     CQLP_KIND_CUSTOM, CQLP_KIND_ASCII, CQLP_KIND_BIGINT, CQLP_KIND_BLOB, CQLP_KIND_BOOLEAN, CQLP_KIND_COUNTER, CQLP_KIND_DECIMAL, CQLP_KIND_DOUBLE,
     CQLP_KIND_FLOAT, CQLP_KIND_INT, CQLP_KIND_TIMESTAMP, CQLP_KIND_UUID, CQLP_KIND_VARCHAR, CQLP_KIND_VARINT, CQLP_KIND_TIMEUUID, CQLP_KIND_INET,
     CQLP_KIND_DATE, CQLP_KIND_TIME, CQLP_KIND_SMALLINT, CQLP_KIND_TINYINT, CQLP_KIND_LIST, CQLP_KIND_MAP, CQLP_KIND_SET, CQLP_KIND_UDT, CQLP_KIND_TUPLE,
   };
   size_t scalars = sizeof KINDS - 5;
-  int few = nested < 6 && told->count < 40;
+  int few = nested < 6 && frame->count < 40;
   uint8_t kind = KINDS[!few ? below(scalars) : below(2) ? scalars + below(5) : below(scalars)];
-  tell_kind(told, kind);
-  if (kind == CQLP_KIND_CUSTOM) tell_text(told, CQLP_FIELD_CLASS);
-  if (kind == CQLP_KIND_LIST || kind == CQLP_KIND_MAP || kind == CQLP_KIND_SET) tell_type(told, nested + 1);
-  if (kind == CQLP_KIND_MAP) tell_type(told, nested + 1);
+  append_kind(frame, kind);
+  if (kind == CQLP_KIND_CUSTOM) append_text(frame, CQLP_FIELD_CLASS);
+  if (kind == CQLP_KIND_LIST || kind == CQLP_KIND_MAP || kind == CQLP_KIND_SET) append_type(frame, nested + 1);
+  if (kind == CQLP_KIND_MAP) append_type(frame, nested + 1);
   if (kind == CQLP_KIND_UDT) {
-    tell_text(told, CQLP_FIELD_KEYSPACE);
-    tell_text(told, CQLP_FIELD_TYPE_NAME);
+    append_text(frame, CQLP_FIELD_KEYSPACE);
+    append_text(frame, CQLP_FIELD_TYPE_NAME);
   }
-  if (kind == CQLP_KIND_UDT || kind == CQLP_KIND_TUPLE) tell_types(told, nested, kind == CQLP_KIND_UDT);
+  if (kind == CQLP_KIND_UDT || kind == CQLP_KIND_TUPLE) append_types(frame, nested, kind == CQLP_KIND_UDT);
 }
 
-static void tell_table(told *told) {
-  tell_text(told, CQLP_FIELD_KEYSPACE);
-  tell_text(told, CQLP_FIELD_TABLE);
+static void append_table(frame *frame) {
+  append_text(frame, CQLP_FIELD_KEYSPACE);
+  append_text(frame, CQLP_FIELD_TABLE);
 }
 
 /* Columns that have a table together, or one each. */
-static void tell_columns(told *told, size_t count, int together) {
-  if (together) tell_table(told);
+static void append_columns(frame *frame, size_t count, int together) {
+  if (together) append_table(frame);
   for (size_t i = 0; i < count; i++) {
-    if (!together) tell_table(told);
-    tell_text(told, CQLP_FIELD_COLUMN_NAME);
-    tell_type(told, 1);
+    if (!together) append_table(frame);
+    append_text(frame, CQLP_FIELD_COLUMN_NAME);
+    append_type(frame, 1);
   }
 }
 
-static void begin_prepared(told *told) {
-  told->count = told->length = 0;
-  tell(told, (cqlp_event){.tag = CQLP_TAG_FRAME, .opcode = CQLP_OPCODE_RESULT, .extra = 7, .mark = CQLP_MARK_RESPONSE});
-  tell_number(told, CQLP_TAG_INT, CQLP_FIELD_RESULT_KIND, CQLP_RESULT_PREPARED);
-  told->contents[told->length++] = 0xAA;
-  tell(told, (cqlp_event){.tag = CQLP_TAG_BYTES, .field = CQLP_FIELD_STATEMENT_ID, .length = 1});
+static void begin_prepared(frame *frame) {
+  frame->count = frame->length = 0;
+  append(frame, (cqlp_event){.tag = CQLP_TAG_FRAME, .opcode = CQLP_OPCODE_RESULT, .extra = 7, .mark = CQLP_MARK_RESPONSE});
+  append_number(frame, CQLP_TAG_INT, CQLP_FIELD_RESULT_KIND, CQLP_RESULT_PREPARED);
+  frame->contents[frame->length++] = 0xAA;
+  append(frame, (cqlp_event){.tag = CQLP_TAG_BYTES, .field = CQLP_FIELD_STATEMENT_ID, .length = 1});
 }
 
 /* The metadata of parameters, with the places of the partition key among them. */
-static void tell_parameters(told *told, size_t count, int together, size_t keys) {
-  tell_number(told, CQLP_TAG_INT, CQLP_FIELD_META_FLAGS, together);
-  tell_number(told, CQLP_TAG_COUNT, CQLP_FIELD_COLUMNS, (int64_t)count);
-  tell_number(told, CQLP_TAG_COUNT, CQLP_FIELD_KEYS, (int64_t)keys);
-  for (size_t i = 0; i < keys; i++) tell_number(told, CQLP_TAG_SHORT, CQLP_FIELD_KEY_INDEX, (int64_t)below(3));
-  tell_columns(told, count, together);
+static void append_parameters(frame *frame, size_t count, int together, size_t keys) {
+  append_number(frame, CQLP_TAG_INT, CQLP_FIELD_META_FLAGS, together);
+  append_number(frame, CQLP_TAG_COUNT, CQLP_FIELD_COLUMNS, (int64_t)count);
+  append_number(frame, CQLP_TAG_COUNT, CQLP_FIELD_KEYS, (int64_t)keys);
+  for (size_t i = 0; i < keys; i++) append_number(frame, CQLP_TAG_SHORT, CQLP_FIELD_KEY_INDEX, (int64_t)below(3));
+  append_columns(frame, count, together);
 }
 
 /* The metadata of a result: none, that of a statement that returns no rows, or columns, also with the state of a page. */
-static void tell_results(told *told) {
+static void append_results(frame *frame) {
   size_t count = below(3);
   int together = (int)below(2), state = (int)below(2), none = (int)below(2);
-  tell_number(told, CQLP_TAG_INT, CQLP_FIELD_META_FLAGS, together | state << 1 | none << 2);
-  tell_number(told, CQLP_TAG_COUNT, CQLP_FIELD_COLUMNS, (int64_t)count);
-  if (state) tell(told, (cqlp_event){.tag = CQLP_TAG_BYTES, .field = CQLP_FIELD_PAGING_STATE, .mark = CQLP_MARK_NULL});
-  if (!none) tell_columns(told, count, together);
+  append_number(frame, CQLP_TAG_INT, CQLP_FIELD_META_FLAGS, together | state << 1 | none << 2);
+  append_number(frame, CQLP_TAG_COUNT, CQLP_FIELD_COLUMNS, (int64_t)count);
+  if (state) append(frame, (cqlp_event){.tag = CQLP_TAG_BYTES, .field = CQLP_FIELD_PAGING_STATE, .mark = CQLP_MARK_NULL});
+  if (!none) append_columns(frame, count, together);
 }
 
 /* What is written of prepared statements that are made at random is read as they were made. */
 static void prepare_some(size_t times) {
-  static told told;
+  static frame frame;
   size_t types = 0;
   for (size_t i = 0; i < times; i++) {
     uint8_t *bytes;
     cqlp_encoded encoded;
-    begin_prepared(&told);
-    tell_parameters(&told, below(3), (int)below(2), below(3));
-    tell_results(&told);
-    for (size_t n = 0; n < told.count; n++) types += told.events[n].tag == CQLP_TAG_TYPE_NODE;
-    CHECK(encode(&told, LONG, &bytes, &encoded) == CQLP_DONE);
-    check_read(&told, bytes, encoded.length);
-    if (i < 16) keep(&told);
+    begin_prepared(&frame);
+    append_parameters(&frame, below(3), (int)below(2), below(3));
+    append_results(&frame);
+    for (size_t n = 0; n < frame.count; n++) types += frame.events[n].tag == CQLP_TAG_TYPE_NODE;
+    CHECK(encode(&frame, LONG, &bytes, &encoded) == CQLP_DONE);
+    check_read(&frame, bytes, encoded.length);
+    if (i < 16) keep(&frame);
   }
   printf("prepared statements: %zu, with %s types\n", times, types > times ? "many" : "few");
 }
 
 /* A prepared statement whose result has one column, of as many lists in one another. */
 static void prepare_deep(unsigned lists) {
-  static told told;
+  static frame frame;
   uint8_t *bytes;
   cqlp_encoded encoded;
-  begin_prepared(&told);
-  tell_parameters(&told, 0, 0, 0);
-  tell_number(&told, CQLP_TAG_INT, CQLP_FIELD_META_FLAGS, 1);
-  tell_number(&told, CQLP_TAG_COUNT, CQLP_FIELD_COLUMNS, 1);
-  tell_table(&told);
-  tell_text(&told, CQLP_FIELD_COLUMN_NAME);
-  for (unsigned i = 0; i < lists; i++) tell_kind(&told, CQLP_KIND_LIST);
-  tell_kind(&told, CQLP_KIND_INT);
-  uint32_t code = encode(&told, LONG, &bytes, &encoded);
-  printf("%u lists in one another: %s at %zu of %zu\n", lists, cqlp_name(CQLP_GROUP_CODE, code), encoded.event, told.count);
-  if (code == CQLP_DONE) check_read(&told, bytes, encoded.length);
+  begin_prepared(&frame);
+  append_parameters(&frame, 0, 0, 0);
+  append_number(&frame, CQLP_TAG_INT, CQLP_FIELD_META_FLAGS, 1);
+  append_number(&frame, CQLP_TAG_COUNT, CQLP_FIELD_COLUMNS, 1);
+  append_table(&frame);
+  append_text(&frame, CQLP_FIELD_COLUMN_NAME);
+  for (unsigned i = 0; i < lists; i++) append_kind(&frame, CQLP_KIND_LIST);
+  append_kind(&frame, CQLP_KIND_INT);
+  uint32_t code = encode(&frame, LONG, &bytes, &encoded);
+  printf("%u lists in one another: %s at %zu of %zu\n", lists, cqlp_name(CQLP_GROUP_CODE, code), encoded.event, frame.count);
+  if (code == CQLP_DONE) check_read(&frame, bytes, encoded.length);
 }
 
 /* ---- changes */
 
 /* Changes one thing of an event, or of the contents, or how many there are. */
-static void change(told *told) {
+static void change(frame *frame) {
   static const int64_t NUMBERS[] = {0, 1, -1, 2, 3, 4, 5, 255, 256, 65535, 65536, 2147483647, 2147483648, -2147483648, 4294967295, 4294967296, INT64_MAX, INT64_MIN};
-  size_t i = below(told->count), j = below(told->count);
-  cqlp_event *event = &told->events[i], other = told->events[j];
+  size_t i = below(frame->count), j = below(frame->count);
+  cqlp_event *event = &frame->events[i], other = frame->events[j];
   switch (below(20)) {
     case 0: event->tag = (uint8_t)below(22); break;
     case 1: event->field = (uint8_t)below(60); break;
@@ -382,42 +382,42 @@ static void change(told *told) {
     case 8: event->flags = (uint8_t)(1u << below(8)); break;
     case 9: event->extra = (int32_t)NUMBERS[below(sizeof NUMBERS / sizeof *NUMBERS)]; break;
     case 10: event->octets = (uint8_t)below(18); break;
-    case 11: if (told->length) told->contents[below(told->length)] = (uint8_t)below(256); break;
-    case 12: told->length = below(2) ? below(told->length + 1) : told->length + below(3); break;
-    case 13: told->events[j] = *event; *event = other; break;
+    case 11: if (frame->length) frame->contents[below(frame->length)] = (uint8_t)below(256); break;
+    case 12: frame->length = below(2) ? below(frame->length + 1) : frame->length + below(3); break;
+    case 13: frame->events[j] = *event; *event = other; break;
     case 14: event->kind = below(8) ? (uint8_t)below(54) : CQLP_KIND_RAW; break;
     case 15: event->row += (uint32_t)below(3) - 1; break;
     case 16: event->column += (uint32_t)below(3) - 1; break;
     case 17: event->level += (uint32_t)below(3) - 1; break;
-    case 18: if (told->count > 1) memmove(event, event + 1, (--told->count - i) * sizeof *event); break;
+    case 18: if (frame->count > 1) memmove(event, event + 1, (--frame->count - i) * sizeof *event); break;
     default:
-      if (told->count == MOST) break;
-      memmove(event + 1, event, (told->count++ - i) * sizeof *event);
+      if (frame->count == MOST) break;
+      memmove(event + 1, event, (frame->count++ - i) * sizeof *event);
       *event = other;
   }
-  if (told->length > LONG) told->length = LONG;
+  if (frame->length > LONG) frame->length = LONG;
 }
 
 /* What becomes of events that were changed, by codes. */
 static size_t codes[64];
 
 static void write_changed(size_t times) {
-  static told told;
+  static frame frame;
   for (size_t i = 0; i < times; i++) {
     uint8_t *bytes;
     cqlp_encoded encoded;
-    told = *frames[below(kept)];
-    for (size_t n = below(4); n-- > 0;) change(&told);
-    uint32_t code = encode(&told, below(2) ? 4096 : below(40), &bytes, &encoded);
+    frame = *frames[below(kept)];
+    for (size_t n = below(4); n-- > 0;) change(&frame);
+    uint32_t code = encode(&frame, below(2) ? 4096 : below(40), &bytes, &encoded);
     CHECK(code < sizeof codes / sizeof *codes);
     codes[code]++;
-    if (code == CQLP_DONE) check_read(&told, bytes, encoded.length);
+    if (code == CQLP_DONE) check_read(&frame, bytes, encoded.length);
   }
 }
 
 /* One event that is refused, of a QUERY with a text. */
 static uint32_t refused(size_t which, cqlp_event with, size_t *event) {
-  static told told;
+  static frame frame;
   uint8_t *bytes;
   cqlp_encoded encoded;
   cqlp_event query[] = {
@@ -428,10 +428,10 @@ static uint32_t refused(size_t which, cqlp_event with, size_t *event) {
     {.tag = CQLP_TAG_END},
   };
   query[which] = with;
-  memcpy(told.events, query, sizeof query);
-  memcpy(told.contents, "\xC3\xA4!", told.length = 3);
-  told.count = 5;
-  uint32_t code = encode(&told, 64, &bytes, &encoded);
+  memcpy(frame.events, query, sizeof query);
+  memcpy(frame.contents, "\xC3\xA4!", frame.length = 3);
+  frame.count = 5;
+  uint32_t code = encode(&frame, 64, &bytes, &encoded);
   *event = encoded.event;
   return code;
 }
@@ -502,16 +502,16 @@ static void refuse_pages(void) {
     {"a column less", 3, {.tag = CQLP_TAG_COUNT, .field = CQLP_FIELD_COLUMNS, .number = 1}},
   };
   for (size_t i = 0; i < sizeof CASES / sizeof *CASES; i++) {
-    static told told;
+    static frame frame;
     uint8_t *bytes;
     cqlp_encoded encoded;
-    make_page(told.events);
-    told.events[CASES[i].which] = CASES[i].with;
-    told.count = CASES[i].with.tag == CQLP_TAG_END ? CASES[i].which + 1 : OF_PAGE;
-    memcpy(told.contents, page_contents, told.length = strlen(page_contents));
-    uint32_t code = encode(&told, 200, &bytes, &encoded);
+    make_page(frame.events);
+    frame.events[CASES[i].which] = CASES[i].with;
+    frame.count = CASES[i].with.tag == CQLP_TAG_END ? CASES[i].which + 1 : OF_PAGE;
+    memcpy(frame.contents, page_contents, frame.length = strlen(page_contents));
+    uint32_t code = encode(&frame, 200, &bytes, &encoded);
     printf("%s: %s at %zu\n", CASES[i].what, cqlp_name(CQLP_GROUP_CODE, code), encoded.event);
-    if (code == CQLP_DONE) check_read(&told, bytes, encoded.length);
+    if (code == CQLP_DONE) check_read(&frame, bytes, encoded.length);
   }
 }
 

@@ -22,7 +22,7 @@
 
 enum { ROOM = 64 };
 
-/* What was seen of a stream: a sum of all that its events tell, and how many they are. */
+/* What was seen of a stream: a sum over its events, and how many there are. */
 typedef struct seen {
   uint64_t sum;
   size_t events;

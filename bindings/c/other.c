@@ -1,5 +1,5 @@
 /* What programs see whose structs lie otherwise than the library's: of each call that makes a handle, or is given none, CQLP_OTHER_LAYOUT, and memory that
- * stays as it was. The first was compiled with a header without CQLP_LAYOUT, in which a decoder has 16 bytes; the second tells another number. It
+ * stays as it was. The first was compiled with a header without CQLP_LAYOUT, in which a decoder has 16 bytes; the second passes another number. It
  * does not read cqlp.h, and declares the calls as their names are linked. */
 #include <stdint.h>
 #include <stdio.h>

@@ -8,11 +8,11 @@
 enum { MOST = 4096, LONG = 1 << 16 };
 
 /* The events of a frame, and their contents one after the other; which is the first of a cell, and where the contents of cells begin. */
-typedef struct told {
+typedef struct frame {
   cqlp_event events[MOST];
   uint8_t contents[LONG];
   size_t count, length, cells, from;
-} told;
+} frame;
 
 static int has_content(const cqlp_event *event) {
   int may_be_null = event->tag == CQLP_TAG_BYTES || event->tag == CQLP_TAG_BOUND;
@@ -28,17 +28,17 @@ static int has_content(const cqlp_event *event) {
 
 static size_t content_length(const cqlp_event *event) { return has_content(event) ? event->length : 0; }
 
-static void note(told *told, const cqlp_event *event) {
-  CHECK(told->count < MOST && event->length <= LONG - told->length);
-  told->events[told->count] = *event;
-  told->events[told->count++].content = NULL;
+static void note(frame *frame, const cqlp_event *event) {
+  CHECK(frame->count < MOST && event->length <= LONG - frame->length);
+  frame->events[frame->count] = *event;
+  frame->events[frame->count++].content = NULL;
   if (has_content(event)) {
-    memcpy(told->contents + told->length, event->content, event->length);
-    told->length += event->length;
+    memcpy(frame->contents + frame->length, event->content, event->length);
+    frame->length += event->length;
   }
   if (event->tag == CQLP_TAG_COUNT && event->field == CQLP_FIELD_ROWS) {
-    told->cells = told->count;
-    told->from = told->length;
+    frame->cells = frame->count;
+    frame->from = frame->length;
   }
 }
 
@@ -83,42 +83,42 @@ static int is_left(const uint8_t *bytes, size_t from, size_t room) {
 }
 
 /* Begins the page in a room of this size. */
-static uint32_t begin(const told *told, uint64_t size, size_t room, cqlp_page *page, cqlp_encoded *begun, uint8_t **bytes) {
-  const cqlp_event *events = events_at_edge(told->events, told->cells);
-  const uint8_t *contents = contents_at_edge(told->contents, told->from);
+static uint32_t begin(const frame *frame, uint64_t size, size_t room, cqlp_page *page, cqlp_encoded *begun, uint8_t **bytes) {
+  const cqlp_event *events = events_at_edge(frame->events, frame->cells);
+  const uint8_t *contents = contents_at_edge(frame->contents, frame->from);
   *bytes = room_of(room);
   memset(begun, 0xA5, sizeof *begun);
-  uint32_t code = cqlp_page_begin(events, told->cells, contents, told->from, size, *bytes, room, page, begun);
+  uint32_t code = cqlp_page_begin(events, frame->cells, contents, frame->from, size, *bytes, room, page, begun);
   CHECK(is_left(*bytes, code == CQLP_DONE ? begun->length : 0, room));
-  CHECK(code == CQLP_IN_USE || begun->event <= told->cells);
+  CHECK(code == CQLP_IN_USE || begun->event <= frame->cells);
   CHECK(code == CQLP_IN_USE || code == CQLP_DONE || code == CQLP_NO_ROOM || begun->length == 0);
   return code;
 }
 
 /* Begins the page, into the least room that it fits in. */
-static uint32_t begin_whole(const told *told, uint64_t size, cqlp_page *page, sent *sent) {
+static uint32_t begin_whole(const frame *frame, uint64_t size, cqlp_page *page, sent *sent) {
   cqlp_encoded begun;
   uint8_t *bytes;
-  uint32_t code = begin(told, size, 0, page, &begun, &bytes);
+  uint32_t code = begin(frame, size, 0, page, &begun, &bytes);
   if (code != CQLP_NO_ROOM) return code;
   size_t wanted = begun.length;
-  CHECK(begin(told, size, wanted - 1, page, &begun, &bytes) == CQLP_NO_ROOM && begun.length == wanted);
+  CHECK(begin(frame, size, wanted - 1, page, &begun, &bytes) == CQLP_NO_ROOM && begun.length == wanted);
   CHECK(cqlp_page_end(page) == CQLP_NO_PAGE);
-  CHECK(begin(told, size, wanted + 1, page, &begun, &bytes) == CQLP_DONE && begun.length == wanted && begun.event == told->cells);
+  CHECK(begin(frame, size, wanted + 1, page, &begun, &bytes) == CQLP_DONE && begun.length == wanted && begun.event == frame->cells);
   send(sent, bytes, wanted);
-  CHECK(begin(told, size, wanted, page, &begun, &bytes) == CQLP_IN_USE);
+  CHECK(begin(frame, size, wanted, page, &begun, &bytes) == CQLP_IN_USE);
   return CQLP_DONE;
 }
 
 /* Puts all cells in batches and rooms of these sizes, which grow where a cell wants more. */
-static uint32_t put_cells(const told *told, size_t end, size_t batch, size_t room, cqlp_page *page, sent *sent) {
-  size_t done = told->cells, used = told->from, count = batch;
+static uint32_t put_cells(const frame *frame, size_t end, size_t batch, size_t room, cqlp_page *page, sent *sent) {
+  size_t done = frame->cells, used = frame->from, count = batch;
   for (;;) {
     count = count < end - done ? count : end - done;
-    const cqlp_event *events = events_at_edge(told->events + done, count);
+    const cqlp_event *events = events_at_edge(frame->events + done, count);
     size_t length = contents_of(events, count);
-    if (length > told->length - used) length = told->length - used;
-    const uint8_t *contents = contents_at_edge(told->contents + used, length);
+    if (length > frame->length - used) length = frame->length - used;
+    const uint8_t *contents = contents_at_edge(frame->contents + used, length);
     uint8_t *bytes = room_of(room);
     cqlp_put put;
     memset(&put, 0xA5, sizeof put);
@@ -148,53 +148,53 @@ static uint32_t put_cells(const told *told, size_t end, size_t batch, size_t roo
   }
 }
 
-static uint64_t size_of(const told *told, size_t end) {
+static uint64_t size_of(const frame *frame, size_t end) {
   cqlp_measured measured = {0, 0};
-  size_t half = end / 2, used = contents_of(told->events, half);
-  CHECK(cqlp_page_measure(told->events, half, told->contents, used, &measured) == CQLP_DONE && measured.event == half);
-  const cqlp_event *events = events_at_edge(told->events + half, end - half);
-  const uint8_t *contents = contents_at_edge(told->contents + used, told->length - used);
-  CHECK(cqlp_page_measure(events, end - half, contents, told->length - used, &measured) == CQLP_DONE && measured.event == end - half);
+  size_t half = end / 2, used = contents_of(frame->events, half);
+  CHECK(cqlp_page_measure(frame->events, half, frame->contents, used, &measured) == CQLP_DONE && measured.event == half);
+  const cqlp_event *events = events_at_edge(frame->events + half, end - half);
+  const uint8_t *contents = contents_at_edge(frame->contents + used, frame->length - used);
+  CHECK(cqlp_page_measure(events, end - half, contents, frame->length - used, &measured) == CQLP_DONE && measured.event == end - half);
   return measured.size;
 }
 
 static size_t pages, cells;
 
 /* A whole page, written in each of the ways. */
-static void write_page(const told *told) {
+static void write_page(const frame *frame) {
   static const size_t BATCHES[] = {1, 3, 64}, ROOMS[] = {16, 100, 4096};
   static uint8_t wanted[LONG];
   static sent sent;
   cqlp_encoded encoded;
-  size_t end = told->count - 1;
-  CHECK(cqlp_encode(told->events, told->count, told->contents, told->length, wanted, LONG, &encoded) == CQLP_DONE);
-  uint64_t size = size_of(told, end);
+  size_t end = frame->count - 1;
+  CHECK(cqlp_encode(frame->events, frame->count, frame->contents, frame->length, wanted, LONG, &encoded) == CQLP_DONE);
+  uint64_t size = size_of(frame, end);
   for (size_t i = 0; i < 9; i++) {
     cqlp_page page = CQLP_NO_PAGE_YET;
     sent.length = 0;
-    CHECK(begin_whole(told, size, &page, &sent) == CQLP_DONE);
-    CHECK((cqlp_page_end(&page) == CQLP_DONE) == (told->cells == end));
-    CHECK(put_cells(told, end, BATCHES[i / 3], ROOMS[i % 3], &page, &sent) == CQLP_DONE);
+    CHECK(begin_whole(frame, size, &page, &sent) == CQLP_DONE);
+    CHECK((cqlp_page_end(&page) == CQLP_DONE) == (frame->cells == end));
+    CHECK(put_cells(frame, end, BATCHES[i / 3], ROOMS[i % 3], &page, &sent) == CQLP_DONE);
     CHECK(cqlp_page_end(&page) == CQLP_DONE);
     CHECK(sent.length == encoded.length && memcmp(sent.bytes, wanted, sent.length) == 0);
     CHECK(cqlp_page_free(&page) == CQLP_DONE && cqlp_page_free(&page) == CQLP_NO_PAGE);
   }
   pages++;
-  for (size_t i = told->cells; i < end; i++) cells += told->events[i].tag != CQLP_TAG_LEAVE && told->events[i].level == 0;
+  for (size_t i = frame->cells; i < end; i++) cells += frame->events[i].tag != CQLP_TAG_LEAVE && frame->events[i].level == 0;
 }
 
 enum { KEPT = 64 };
-static told *kept[KEPT];
+static frame *kept[KEPT];
 static size_t count_kept;
 
-static int has_tag(const told *told, uint8_t tag) {
-  for (size_t i = 0; i < told->count; i++)
-    if (told->events[i].tag == tag) return 1;
+static int has_tag(const frame *frame, uint8_t tag) {
+  for (size_t i = 0; i < frame->count; i++)
+    if (frame->events[i].tag == tag) return 1;
   return 0;
 }
 
 static void read_stream(const cqlp_limits *limits, const uint8_t *stream, size_t length) {
-  static told told;
+  static frame frame;
   cqlp_decoder decoder = CQLP_NO_DECODER_YET;
   cqlp_event event;
   cqlp_batch batch = {0};
@@ -204,15 +204,15 @@ static void read_stream(const cqlp_limits *limits, const uint8_t *stream, size_t
     CHECK(cqlp_next(&decoder, stream + used, length - used, &event, 1, &batch) == CQLP_DONE);
     used += batch.used;
     if (!batch.events) continue;
-    if (event.tag == CQLP_TAG_FRAME) memset(&told, 0, sizeof told);
-    note(&told, &event);
-    if (event.tag != CQLP_TAG_END || !told.cells || has_tag(&told, CQLP_TAG_PART)) continue;
-    if (!limits->types && has_tag(&told, CQLP_TAG_TYPE_NODE)) continue;
-    write_page(&told);
+    if (event.tag == CQLP_TAG_FRAME) memset(&frame, 0, sizeof frame);
+    note(&frame, &event);
+    if (event.tag != CQLP_TAG_END || !frame.cells || has_tag(&frame, CQLP_TAG_PART)) continue;
+    if (!limits->types && has_tag(&frame, CQLP_TAG_TYPE_NODE)) continue;
+    write_page(&frame);
     if (count_kept == KEPT) continue;
-    kept[count_kept] = malloc(sizeof told);
+    kept[count_kept] = malloc(sizeof frame);
     CHECK(kept[count_kept]);
-    *kept[count_kept++] = told;
+    *kept[count_kept++] = frame;
   } while (batch.stop == CQLP_STOP_FULL);
   CHECK(cqlp_free(&decoder) == CQLP_DONE);
 }
@@ -220,17 +220,17 @@ static void read_stream(const cqlp_limits *limits, const uint8_t *stream, size_t
 /* ---- what is refused */
 
 /* The page of give.h. */
-static told *page_of_two_rows(void) {
-  static told told;
+static frame *page_of_two_rows(void) {
+  static frame frame;
   cqlp_event page[OF_PAGE];
   make_page(page);
-  told.count = OF_PAGE;
-  told.cells = 12;
-  told.from = 4;
-  told.length = strlen(page_contents);
-  memcpy(told.events, page, sizeof page);
-  memcpy(told.contents, page_contents, told.length);
-  return &told;
+  frame.count = OF_PAGE;
+  frame.cells = 12;
+  frame.from = 4;
+  frame.length = strlen(page_contents);
+  memcpy(frame.events, page, sizeof page);
+  memcpy(frame.contents, page_contents, frame.length);
+  return &frame;
 }
 
 static void refuse_heads(void) {
@@ -249,12 +249,12 @@ static void refuse_heads(void) {
     {"an end before", 10, 33, {.tag = CQLP_TAG_END}},
   };
   for (size_t i = 0; i < sizeof CASES / sizeof *CASES; i++) {
-    told told = *page_of_two_rows();
+    frame frame = *page_of_two_rows();
     cqlp_page page = CQLP_NO_PAGE_YET;
     cqlp_encoded begun;
     uint8_t *bytes;
-    told.events[CASES[i].which] = CASES[i].with;
-    uint32_t code = begin(&told, CASES[i].size, 200, &page, &begun, &bytes);
+    frame.events[CASES[i].which] = CASES[i].with;
+    uint32_t code = begin(&frame, CASES[i].size, 200, &page, &begun, &bytes);
     printf("head, %s: %s at %zu\n", CASES[i].what, cqlp_name(CQLP_GROUP_CODE, code), begun.event);
     CHECK((cqlp_page_free(&page) == CQLP_DONE) == (code == CQLP_DONE));
   }
@@ -278,12 +278,12 @@ static void refuse_cells(void) {
   };
   for (size_t i = 0; i < sizeof CASES / sizeof *CASES; i++) {
     static sent sent;
-    told told = *page_of_two_rows();
+    frame frame = *page_of_two_rows();
     cqlp_page page = CQLP_NO_PAGE_YET;
-    told.events[CASES[i].which] = CASES[i].with;
+    frame.events[CASES[i].which] = CASES[i].with;
     sent.length = 0;
-    CHECK(begin_whole(&told, CASES[i].size, &page, &sent) == CQLP_DONE);
-    uint32_t code = put_cells(&told, CASES[i].end, 64, 4096, &page, &sent);
+    CHECK(begin_whole(&frame, CASES[i].size, &page, &sent) == CQLP_DONE);
+    uint32_t code = put_cells(&frame, CASES[i].end, 64, 4096, &page, &sent);
     printf("cells, %s: %s after %zu bytes, and %s\n", CASES[i].what, cqlp_name(CQLP_GROUP_CODE, code), sent.length,
            cqlp_name(CQLP_GROUP_CODE, cqlp_page_end(&page)));
     CHECK(cqlp_page_free(&page) == CQLP_DONE);
@@ -315,8 +315,8 @@ static size_t below(size_t bound) {
 }
 
 /* Changes one thing of an event, or of the contents. */
-static void change(told *told) {
-  cqlp_event *event = &told->events[below(told->count)], *other = &told->events[below(told->count)], was;
+static void change(frame *frame) {
+  cqlp_event *event = &frame->events[below(frame->count)], *other = &frame->events[below(frame->count)], was;
   switch (below(12)) {
     case 0: event->tag = (uint8_t)below(22); break;
     case 1: event->field = (uint8_t)below(60); break;
@@ -327,45 +327,45 @@ static void change(told *told) {
     case 6: event->row += (uint32_t)below(3) - 1; break;
     case 7: event->column += (uint32_t)below(3) - 1; break;
     case 8: event->level += (uint32_t)below(3) - 1; break;
-    case 9: if (told->length) told->contents[below(told->length)] = (uint8_t)below(256); break;
+    case 9: if (frame->length) frame->contents[below(frame->length)] = (uint8_t)below(256); break;
     case 10: event->opcode = (uint8_t)below(18); break;
     default: was = *event; *event = *other; *other = was;
   }
 }
 
 /* What was put is what cqlp_encode writes of the events, also where they were changed. */
-static void check_sent(const told *told, const sent *sent) {
+static void check_sent(const frame *frame, const sent *sent) {
   static uint8_t wanted[LONG];
   cqlp_encoded encoded;
-  size_t length = contents_of(told->events, told->count - 1);
-  CHECK(length <= told->length);
-  CHECK(cqlp_encode(told->events, told->count - 1, told->contents, length, wanted, LONG, &encoded) == CQLP_DONE);
+  size_t length = contents_of(frame->events, frame->count - 1);
+  CHECK(length <= frame->length);
+  CHECK(cqlp_encode(frame->events, frame->count - 1, frame->contents, length, wanted, LONG, &encoded) == CQLP_DONE);
   CHECK(sent->length == encoded.length && memcmp(sent->bytes, wanted, sent->length) == 0);
 }
 
 static size_t codes[64], whole;
 
 static void write_changed(size_t times) {
-  static told told;
+  static frame frame;
   static sent sent;
   for (size_t i = 0; i < times; i++) {
     cqlp_page page = CQLP_NO_PAGE_YET;
     cqlp_measured measured = {0, 0};
-    told = *kept[below(count_kept)];
-    if (told.count > 128) continue;
-    for (size_t n = 1 + below(3); n-- > 0;) change(&told);
-    size_t end = told.count - 1;
+    frame = *kept[below(count_kept)];
+    if (frame.count > 128) continue;
+    for (size_t n = 1 + below(3); n-- > 0;) change(&frame);
+    size_t end = frame.count - 1;
     sent.length = 0;
-    if (cqlp_page_measure(told.events, end, told.contents, told.length, &measured) != CQLP_DONE) measured.size = below(200);
-    uint32_t code = begin_whole(&told, measured.size + (below(8) ? 0 : below(9)), &page, &sent);
+    if (cqlp_page_measure(frame.events, end, frame.contents, frame.length, &measured) != CQLP_DONE) measured.size = below(200);
+    uint32_t code = begin_whole(&frame, measured.size + (below(8) ? 0 : below(9)), &page, &sent);
     codes[code]++;
     if (code != CQLP_DONE) continue;
-    code = put_cells(&told, end, 1 + below(64), 1 + below(100), &page, &sent);
+    code = put_cells(&frame, end, 1 + below(64), 1 + below(100), &page, &sent);
     codes[code]++;
     uint32_t last = cqlp_page_end(&page);
     codes[last]++;
     if (code == CQLP_DONE && last == CQLP_DONE) {
-      check_sent(&told, &sent);
+      check_sent(&frame, &sent);
       whole++;
     }
     CHECK(cqlp_page_free(&page) == CQLP_DONE);

@@ -38,13 +38,13 @@ static const struct {
 enum { MOST = 256, SKIPS = 4 };
 
 /* What was seen of a stream, and what was passed over. */
-typedef struct told {
+typedef struct outcome {
   seen seen;
   cqlp_skipped skipped[SKIPS];
   size_t skips;
   cqlp_end end;
   uint32_t code; /* of the last skip */
-} told;
+} outcome;
 
 static size_t bytes_of(const char *digits, uint8_t *bytes) {
   size_t length = strlen(digits) / 2;
@@ -66,22 +66,22 @@ static void print_event(const cqlp_event *event) {
 }
 
 /* Passes over a frame, if it can be. The event of its header is that which was put. */
-static int pass_over(cqlp_decoder *decoder, const cqlp_event *frame, told *told) {
+static int pass_over(cqlp_decoder *decoder, const cqlp_event *frame, outcome *outcome) {
   cqlp_skipped skipped;
   memset(&skipped, 0, sizeof skipped);
-  told->code = cqlp_skip(decoder, &skipped);
-  if (told->code != CQLP_DONE) {
+  outcome->code = cqlp_skip(decoder, &skipped);
+  if (outcome->code != CQLP_DONE) {
     CHECK(skipped.frame.tag == 0 && skipped.at == 0 && skipped.rest == 0 && skipped.reason == 0);
     return 0;
   }
-  CHECK(memcmp(&skipped.frame, frame, offsetof(cqlp_event, octets) + 1) == 0 && told->skips < SKIPS);
+  CHECK(memcmp(&skipped.frame, frame, offsetof(cqlp_event, octets) + 1) == 0 && outcome->skips < SKIPS);
   CHECK(cqlp_skip(decoder, &skipped) == CQLP_NOT_REFUSED);
-  told->skipped[told->skips++] = skipped;
+  outcome->skipped[outcome->skips++] = skipped;
   return 1;
 }
 
 /* Gives a piece, and passes over each frame that is refused. Answers whether the decoder goes on. */
-static int read_piece(cqlp_decoder *decoder, const uint8_t *piece, size_t length, size_t room, int print, told *told) {
+static int read_piece(cqlp_decoder *decoder, const uint8_t *piece, size_t length, size_t room, int print, outcome *outcome) {
   static cqlp_event frame;
   cqlp_event *events = edge(EVENTS, room * sizeof *events);
   uint8_t *copy = edge(PIECE, length);
@@ -95,17 +95,17 @@ static int read_piece(cqlp_decoder *decoder, const uint8_t *piece, size_t length
     CHECK(batch.used <= length - used && batch.events <= room);
     used += batch.used;
     for (size_t i = 0; i < batch.events; i++) {
-      see(&told->seen, &events[i]);
+      see(&outcome->seen, &events[i]);
       if (print) print_event(&events[i]);
       if (events[i].tag == CQLP_TAG_FRAME) frame = events[i];
     }
     if (batch.stop == CQLP_STOP_REFUSED) {
-      size_t skips = told->skips;
-      if (!pass_over(decoder, &frame, told)) return 0;
-      CHECK(told->skipped[skips].at == batch.at && told->skipped[skips].reason == batch.reason);
+      size_t skips = outcome->skips;
+      if (!pass_over(decoder, &frame, outcome)) return 0;
+      CHECK(outcome->skipped[skips].at == batch.at && outcome->skipped[skips].reason == batch.reason);
       if (print)
         printf("  %d %s: the frame at %d is passed over, %d bytes to come\n", (int)batch.at, cqlp_name(CQLP_GROUP_REASON, batch.reason),
-               (int)told->skipped[skips].frame.at, (int)told->skipped[skips].rest);
+               (int)outcome->skipped[skips].frame.at, (int)outcome->skipped[skips].rest);
     }
   } while (batch.stop != CQLP_STOP_MORE);
   CHECK(used == length);
@@ -113,15 +113,15 @@ static int read_piece(cqlp_decoder *decoder, const uint8_t *piece, size_t length
 }
 
 /* Reads a stream that is cut at two places. */
-static told read_cut(const uint8_t *bytes, size_t length, size_t first, size_t second, size_t room, int print) {
+static outcome read_cut(const uint8_t *bytes, size_t length, size_t first, size_t second, size_t room, int print) {
   cqlp_decoder decoder = CQLP_NO_DECODER_YET;
-  told told;
-  memset(&told, 0, sizeof told);
+  outcome outcome;
+  memset(&outcome, 0, sizeof outcome);
   CHECK(cqlp_new(&LIMITS, &decoder) == CQLP_DONE);
-  if (read_piece(&decoder, bytes, first, room, print, &told) && read_piece(&decoder, bytes + first, second - first, room, print, &told))
-    read_piece(&decoder, bytes + second, length - second, room, print, &told);
-  CHECK(cqlp_finish(&decoder, &told.end) == CQLP_DONE && cqlp_free(&decoder) == CQLP_DONE);
-  return told;
+  if (read_piece(&decoder, bytes, first, room, print, &outcome) && read_piece(&decoder, bytes + first, second - first, room, print, &outcome))
+    read_piece(&decoder, bytes + second, length - second, room, print, &outcome);
+  CHECK(cqlp_finish(&decoder, &outcome.end) == CQLP_DONE && cqlp_free(&decoder) == CQLP_DONE);
+  return outcome;
 }
 
 /* The frame is the same, and what came of it; how many of its bytes are to come depends on the cut alone. */
@@ -129,19 +129,19 @@ static int same_skip(const cqlp_skipped *a, const cqlp_skipped *b) {
   return memcmp(&a->frame, &b->frame, offsetof(cqlp_event, octets) + 1) == 0 && a->at == b->at && a->reason == b->reason;
 }
 
-static void check_same(const told *a, const told *b) {
+static void check_same(const outcome *a, const outcome *b) {
   CHECK(a->seen.events == b->seen.events && a->seen.sum == b->seen.sum && a->skips == b->skips && a->code == b->code);
   CHECK(same_end(&a->end, &b->end));
   for (size_t i = 0; i < a->skips; i++) CHECK(same_skip(&a->skipped[i], &b->skipped[i]));
 }
 
-static void print_end(const told *told) {
-  printf("  %s", cqlp_name(CQLP_GROUP_END, told->end.verdict));
-  if (told->end.verdict == CQLP_END_WHOLE) printf(" %d", (int)told->end.bytes);
-  if (told->end.verdict == CQLP_END_CUT) printf(" %d %d", (int)told->end.at, (int)told->end.bytes);
-  if (told->end.verdict == CQLP_END_REFUSED)
-    printf(" %d %s, not passed over: %s", (int)told->end.at, cqlp_name(CQLP_GROUP_REASON, told->end.reason),
-           cqlp_name(CQLP_GROUP_CODE, told->code));
+static void print_end(const outcome *outcome) {
+  printf("  %s", cqlp_name(CQLP_GROUP_END, outcome->end.verdict));
+  if (outcome->end.verdict == CQLP_END_WHOLE) printf(" %d", (int)outcome->end.bytes);
+  if (outcome->end.verdict == CQLP_END_CUT) printf(" %d %d", (int)outcome->end.at, (int)outcome->end.bytes);
+  if (outcome->end.verdict == CQLP_END_REFUSED)
+    printf(" %d %s, not passed over: %s", (int)outcome->end.at, cqlp_name(CQLP_GROUP_REASON, outcome->end.reason),
+           cqlp_name(CQLP_GROUP_CODE, outcome->code));
   printf("\n");
 }
 
@@ -150,11 +150,11 @@ static void read_streams(void) {
     uint8_t bytes[MOST];
     size_t length = bytes_of(STREAMS[i].bytes, bytes);
     printf("%s\n", STREAMS[i].name);
-    told whole = read_cut(bytes, length, 0, length, ROOM, 1);
+    outcome whole = read_cut(bytes, length, 0, length, ROOM, 1);
     print_end(&whole);
     for (size_t first = 0; first <= length; first++)
       for (size_t second = first; second <= length; second++) {
-        told cut = read_cut(bytes, length, first, second, 1 + (first + second) % 3, 0);
+        outcome cut = read_cut(bytes, length, first, second, 1 + (first + second) % 3, 0);
         check_same(&whole, &cut);
       }
   }

@@ -1,5 +1,5 @@
 /* Streams as data: those of bindings/streams.txt within the limits below come on standard input, each a name, `--raw` or `--parts`, `|` and
- * hexadecimal digits (bindings/build). Of each stream the offset and the tag of its events and its verdict are printed, as they stand in
+ * hexadecimal digits (bindings/build). Of each stream the offset and the tag of its events and its verdict are printed, as they are in
  * that file, and each cut of it has to give the same, with each content in its place. Then bytes of each stream are
  * replaced by others, one and four at each place, so that lengths and counts lie: however it is cut, the events and the verdict are
  * those of the whole, and no byte past a piece or past the array is read or written. */
@@ -154,7 +154,7 @@ static void look_everywhere(const cqlp_limits *limits, const uint8_t *stream, si
     }
 }
 
-/* Bytes that stand in place of others. */
+/* Bytes that replace others. */
 typedef struct lie {
   size_t width;
   uint8_t bytes[4];
