@@ -42,6 +42,6 @@ setup(
     options={"bdist_wheel": {"py_limited_api": "cp39"}},
     ext_modules=[
         Extension("cqlp." + name, ["cqlp/%s.c" % name], include_dirs=[str(TOP / "include")], py_limited_api=True)
-        for name in ("_batches", "_capsules", "_cells", "_nested", "_told")
+        for name in ("_batches", "_capsules", "_cells", "_nested", "_records")
     ],
 )

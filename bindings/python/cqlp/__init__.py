@@ -3,7 +3,7 @@
 `rows(source)` gives the rows of a stream's pages, `columns(source)` their columns, numbers as arrays, `arrays(source)` batches of rows in the
 layout of Apache Arrow, `frames(source)` the frames, each message a dataclass of `cqlp.messages`, `events(source)` the events, `check(data)` the
 verdict. `encode` writes a frame of its message or of its events, a `PageWriter` a page of any size. A `MessageDecoder` and a `Decoder` take the
-pieces of a stream as they come, a `Client` pairs replies with requests, a `Server` knows which requests it has not answered. All stand on the
+pieces of a stream as they come, a `Client` pairs replies with requests, a `Server` knows which requests it has not answered. All use the
 proved library libcqlp, whose interface is include/cqlp.h.
 """
 

@@ -116,13 +116,13 @@ class ColumnArray(NamedTuple):
         schema = self._arrow_schema()
         return _arrow.capsules().schema(*schema), _arrow.capsules().array(*self._arrow_array(schema))
 
-    def _arrow_schema(self, like: Optional[_arrow.Told] = None) -> _arrow.Told:
+    def _arrow_schema(self, like: Optional[_arrow.Parts] = None) -> _arrow.Parts:
         """What the schema is made of. Decimals are as in a schema that is given."""
         typed = self.column is not None and self.column.type.kind == self.kind
         type, name = (self.column.type, self.column.name) if self.column and typed else (Type(self.kind), self.column.name if self.column else "")
         return _arrow.schema_of(type, name, self._forms(like))
 
-    def _forms(self, like: Optional[_arrow.Told]) -> _arrow.Told:
+    def _forms(self, like: Optional[_arrow.Parts]) -> _arrow.Parts:
         """The forms of the decimals in it, those of a schema where one is given."""
         if self.kind in _arrow.DECIMALS:
             return (like[0] if like else _arrow.form_of_decimals(self),)
@@ -133,7 +133,7 @@ class ColumnArray(NamedTuple):
             inner = (None,) * len(self.items)
         return tuple(one._forms(each) for one, each in zip(self.items, inner))
 
-    def _arrow_array(self, schema: _arrow.Told) -> _arrow.Told:
+    def _arrow_array(self, schema: _arrow.Parts) -> _arrow.Parts:
         return _arrow.array_of(self, schema, self.column.name if self.column else "")
 
     def _with(self, decimals: _arrow.Decimals) -> "ColumnArray":
@@ -200,12 +200,12 @@ class ArrayBatch:
         schema = self._arrow_schema()
         return _arrow.capsules().schema(*schema), _arrow.capsules().array(*self._arrow_array(schema))
 
-    def _arrow_schema(self, like: Optional[_arrow.Told] = None) -> _arrow.Told:
+    def _arrow_schema(self, like: Optional[_arrow.Parts] = None) -> _arrow.Parts:
         """What the schema is made of. Decimals are as in a schema that is given, where it has as many columns."""
         inner = like[4] if like and len(like[4]) == len(self.arrays) else (None,) * len(self.arrays)
         return _arrow.schema_of_batch(tuple(one._arrow_schema(each) for one, each in zip(self.arrays, inner)))
 
-    def _arrow_array(self, schema: _arrow.Told) -> _arrow.Told:
+    def _arrow_array(self, schema: _arrow.Parts) -> _arrow.Parts:
         return _arrow.array_of_batch(self.count, tuple(one._arrow_array(each) for one, each in zip(self.arrays, schema[4])))
 
 
@@ -231,7 +231,7 @@ class Batches(Iterator[ArrayBatch]):
         schema = first._arrow_schema()
         return _arrow.capsules().stream(schema, self._arrow_arrays(first, schema))
 
-    def _arrow_arrays(self, batch: Optional[ArrayBatch], schema: _arrow.Told) -> Iterator[_arrow.Told]:
+    def _arrow_arrays(self, batch: Optional[ArrayBatch], schema: _arrow.Parts) -> Iterator[_arrow.Parts]:
         while batch is not None:
             if batch._arrow_schema(schema) != schema:
                 raise ValueError("page %d has other columns than the page before it" % batch.page)

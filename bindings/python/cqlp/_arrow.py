@@ -43,7 +43,7 @@ _TEXT, _BINARY, _LIST, _MAP, _STRUCT, _NULLABLE = b"U", b"Z", b"+L", b"+m", b"+s
 _FORMATS.update({Kind.LIST: _LIST, Kind.SET: _LIST, Kind.MAP: _MAP, Kind.TUPLE: _STRUCT, Kind.UDT: _STRUCT})
 _UUID_WORDS = ((b"ARROW:extension:name", b"arrow.uuid"), (b"ARROW:extension:metadata", b""))
 
-Told = Tuple[Any, ...]
+Parts = Tuple[Any, ...]
 """What _capsules.c makes a schema or an array of."""
 
 
@@ -52,7 +52,7 @@ def capsules() -> Any:
     return importlib.import_module("._capsules", __package__)
 
 
-def schema_of(type: Type, name: str, forms: Told = (), flags: int = _NULLABLE) -> Told:
+def schema_of(type: Type, name: str, forms: Parts = (), flags: int = _NULLABLE) -> Parts:
     """What a schema of a type is made of. `forms` are those of the decimals in it, as `form_of_decimals` gives them: one, or of a type with items a tuple
     for each type in it."""
     form = _FORMATS.get(type.kind) or (forms[0] if type.kind in DECIMALS else _BINARY)
@@ -97,7 +97,7 @@ def _there(array: Any) -> Optional[bytes]:
     return (valid & ~int.from_bytes(empties, "little")).to_bytes(len(empties), "little")
 
 
-def _array_of_decimals(array: Any, form: bytes, name: str) -> Told:
+def _array_of_decimals(array: Any, form: bytes, name: str) -> Parts:
     there, values, offsets = _there(array), array.values, _bytes_of(array.offsets)
     if form == _BINARY:
         return array.cells, _nulls(array.validity, array.cells), (array.validity, offsets, values), ()
@@ -132,7 +132,7 @@ def _texts_of(array: Any, cells: List[int]) -> List[bytes]:
     return [str(LEAVES[Kind.DECIMAL](0, content[4:], integer(content[:4]), b"")).encode() for content in spans]
 
 
-def schema_of_batch(columns: Tuple[Told, ...]) -> Told:
+def schema_of_batch(columns: Tuple[Parts, ...]) -> Parts:
     return _STRUCT, b"", None, 0, columns
 
 
@@ -145,7 +145,7 @@ def _nulls(validity: Optional[bytes], cells: int) -> int:
     return 0 if validity is None else cells - bin(int.from_bytes(validity, "little")).count("1")
 
 
-def array_of(of: Any, schema: Told, name: str) -> Told:
+def array_of(of: Any, schema: Parts, name: str) -> Parts:
     """What an array of a ColumnArray is made of, as this schema has it; `name` is that of its column."""
     form, children, cells, validity = schema[0], schema[4], of.cells, of.validity
     if of.kind in DECIMALS:
@@ -172,5 +172,5 @@ def _from_1970(dates: bytes) -> bytes:
     return (int.from_bytes(dates, "little") ^ flip).to_bytes(len(dates), "little")
 
 
-def array_of_batch(count: int, columns: Tuple[Told, ...]) -> Told:
+def array_of_batch(count: int, columns: Tuple[Parts, ...]) -> Parts:
     return count, 0, (None,), columns

@@ -57,14 +57,14 @@ static char *copied(const char *bytes, size_t length) {
 }
 
 /* Makes a schema of its format, name, metadata, flags and children. Answers 0 with an exception; then too it is to be released. */
-static int make_schema(PyObject *told, struct ArrowSchema *schema) {
+static int make_schema(PyObject *parts, struct ArrowSchema *schema) {
   const char *format, *name, *metadata;
   Py_ssize_t length;
   long long flags;
   PyObject *children;
   memset(schema, 0, sizeof *schema);
   schema->release = release_schema;
-  if (!PyArg_ParseTuple(told, "yyz#LO!", &format, &name, &metadata, &length, &flags, &PyTuple_Type, &children)) return 0;
+  if (!PyArg_ParseTuple(parts, "yyz#LO!", &format, &name, &metadata, &length, &flags, &PyTuple_Type, &children)) return 0;
   schema->flags = flags;
   if ((schema->format = copied(format, strlen(format) + 1)) == NULL) return 0;
   if ((schema->name = copied(name, strlen(name) + 1)) == NULL) return 0;
@@ -104,16 +104,16 @@ static void release_array(struct ArrowArray *array) {
 
 /* Makes an array of its length, its nulls, its buffers, each bytes or None, and its children. Answers 0 with an exception; then too it is to be
  * released. */
-static int make_array(PyObject *told, struct ArrowArray *array) {
+static int make_array(PyObject *parts, struct ArrowArray *array) {
   long long length, nulls;
   PyObject *buffers, *children;
   memset(array, 0, sizeof *array);
   array->release = release_array;
-  if (!PyArg_ParseTuple(told, "LLO!O!", &length, &nulls, &PyTuple_Type, &buffers, &PyTuple_Type, &children)) return 0;
+  if (!PyArg_ParseTuple(parts, "LLO!O!", &length, &nulls, &PyTuple_Type, &buffers, &PyTuple_Type, &children)) return 0;
   array->length = length;
   array->null_count = nulls;
-  Py_INCREF(told);
-  array->private_data = told;
+  Py_INCREF(parts);
+  array->private_data = parts;
   size_t kinds = (size_t)PyTuple_Size(buffers), count = (size_t)PyTuple_Size(children);
   array->buffers = calloc(kinds + 1, sizeof *array->buffers);
   array->children = calloc(count + 1, sizeof *array->children);
@@ -177,14 +177,14 @@ static int get_next(struct ArrowArrayStream *stream, struct ArrowArray *array) {
   PyGILState_STATE state = PyGILState_Ensure();
   int code = 0;
   memset(array, 0, sizeof *array);
-  PyObject *told = PyIter_Next(from->arrays);
-  if (told == NULL) {
+  PyObject *parts = PyIter_Next(from->arrays);
+  if (parts == NULL) {
     if (PyErr_Occurred()) code = fail(from);
-  } else if (!make_array(told, array)) {
+  } else if (!make_array(parts, array)) {
     code = fail(from);
     array->release(array);
   }
-  Py_XDECREF(told);
+  Py_XDECREF(parts);
   PyGILState_Release(state);
   return code;
 }
@@ -214,12 +214,12 @@ DESTROY(destroy_schema, ArrowSchema, "arrow_schema")
 DESTROY(destroy_array, ArrowArray, "arrow_array")
 DESTROY(destroy_stream, ArrowArrayStream, "arrow_array_stream")
 
-static PyObject *schema(PyObject *module, PyObject *told) {
+static PyObject *schema(PyObject *module, PyObject *parts) {
   struct ArrowSchema *made = malloc(sizeof *made);
   PyObject *capsule = NULL;
   (void)module;
   if (made == NULL) return PyErr_NoMemory();
-  if (make_schema(told, made)) capsule = PyCapsule_New(made, "arrow_schema", destroy_schema);
+  if (make_schema(parts, made)) capsule = PyCapsule_New(made, "arrow_schema", destroy_schema);
   if (capsule == NULL) {
     made->release(made);
     free(made);
@@ -227,12 +227,12 @@ static PyObject *schema(PyObject *module, PyObject *told) {
   return capsule;
 }
 
-static PyObject *array(PyObject *module, PyObject *told) {
+static PyObject *array(PyObject *module, PyObject *parts) {
   struct ArrowArray *made = malloc(sizeof *made);
   PyObject *capsule = NULL;
   (void)module;
   if (made == NULL) return PyErr_NoMemory();
-  if (make_array(told, made)) capsule = PyCapsule_New(made, "arrow_array", destroy_array);
+  if (make_array(parts, made)) capsule = PyCapsule_New(made, "arrow_array", destroy_array);
   if (capsule == NULL) {
     made->release(made);
     free(made);
@@ -240,10 +240,10 @@ static PyObject *array(PyObject *module, PyObject *told) {
   return capsule;
 }
 
-static PyObject *stream(PyObject *module, PyObject *told) {
+static PyObject *stream(PyObject *module, PyObject *parts) {
   PyObject *of_schema, *arrays, *capsule = NULL;
   (void)module;
-  if (!PyArg_ParseTuple(told, "OO", &of_schema, &arrays)) return NULL;
+  if (!PyArg_ParseTuple(parts, "OO", &of_schema, &arrays)) return NULL;
   struct ArrowArrayStream *made = malloc(sizeof *made);
   reading *from = calloc(1, sizeof *from);
   if (made != NULL && from != NULL) {

@@ -38,12 +38,12 @@ typedef struct column {
 typedef struct cells {
   PyObject_HEAD
   Py_ssize_t width;  /* how many cells a row has */
-  PyObject *types;   /* a tuple of the columns' types, or an empty one where they are not told */
+  PyObject *types;   /* a tuple of the columns' types, or an empty one where they are not described */
   PyObject *leaves;  /* of each kind the function that makes its value, of an event's number, content, extra and octets */
   PyObject *empty;   /* a value of no bytes, of a type that is neither a text nor bytes */
   PyObject *frozen;  /* makes of a value one that may be in a set */
   int to_columns;    /* whether cells go to columns; else they go to rows */
-  column *columns;   /* those whose types are told; else as many as cells of the first row have come */
+  column *columns;   /* those whose types are described; else as many as cells of the first row have come */
   Py_ssize_t begun;  /* how many they are */
   Py_ssize_t space;  /* and how many have room */
   PyObject **row;    /* the cells of the row that is under way, where they go to rows */
@@ -134,7 +134,7 @@ static PyObject *leaf(cells *self, const cqlp_event *event) {
   }
 }
 
-/* The type of the item that comes next, lent; NULL where it is not told, or with an exception. */
+/* The type of the item that comes next, lent; NULL where it is not described, or with an exception. */
 static PyObject *next_type(cells *self) {
   if (self->depth == 0) return PyTuple_Size(self->types) ? PyTuple_GetItem(self->types, self->length) : NULL;
   items *around = &self->open[self->depth - 1];
@@ -194,10 +194,10 @@ static PyObject *fields(items *of) {
   }
   if (of->kind == CQLP_KIND_TUPLE) return PyList_AsTuple(of->values);
   PyObject *names = PyTuple_GetItem(of->type, 2), *found = names == NULL ? NULL : PyDict_New();
-  Py_ssize_t told = found == NULL ? 0 : PyTuple_Size(names);
-  for (Py_ssize_t at = 0; found != NULL && at < told && at < of->count; at++)
+  Py_ssize_t named = found == NULL ? 0 : PyTuple_Size(names);
+  for (Py_ssize_t at = 0; found != NULL && at < named && at < of->count; at++)
     if (PyDict_SetItem(found, PyTuple_GetItem(names, at), PyList_GetItem(of->values, at)) < 0) Py_CLEAR(found);
-  if (found != NULL && told < of->count && PyDict_SetItemString(found, "", PyList_GetItem(of->values, told)) < 0) Py_CLEAR(found);
+  if (found != NULL && named < of->count && PyDict_SetItemString(found, "", PyList_GetItem(of->values, named)) < 0) Py_CLEAR(found);
   return found;
 }
 
@@ -450,7 +450,7 @@ static int put_values(cells *self, const column *of, const cqlp_column *from) {
   return 1;
 }
 
-PyDoc_STRVAR(put_doc, "put(address, count): puts the cells of so many columns of the library, as cqlp_columns_get tells where they lie, behind those "
+PyDoc_STRVAR(put_doc, "put(address, count): puts the cells of so many columns of the library, as cqlp_columns_get puts where they lie, behind those "
                       "that came. The next cell is the first of a row; of the row under way in them the first columns have one more.");
 
 static PyObject *cells_put(PyObject *object, PyObject *arguments) {
@@ -478,12 +478,12 @@ static PyObject *cells_put(PyObject *object, PyObject *arguments) {
   return Py_None;
 }
 
-/* Begins one more column, of numbers where its type is told and they have a width. A count that lies gets no memory: of columns that are
- * not told one is begun when its first cell comes. */
+/* Begins one more column, of numbers where its type is described and they have a width. A count that lies gets no memory: a column that is
+ * not described begins when its first cell comes. */
 static int begin_column(cells *self) {
   if (!grow((void **)&self->columns, self->begun, &self->space, sizeof(column))) return 0;
-  int told = PyTuple_Size(self->types) > self->begun;
-  PyObject *kind = told ? PyTuple_GetItem(PyTuple_GetItem(self->types, self->begun), 0) : NULL;
+  int described = PyTuple_Size(self->types) > self->begun;
+  PyObject *kind = described ? PyTuple_GetItem(PyTuple_GetItem(self->types, self->begun), 0) : NULL;
   long number = kind == NULL ? CQLP_KIND_RAW : PyLong_AsLong(kind);
   if (PyErr_Occurred()) return 0;
   column of = {(uint8_t)number, width_of(number), NULL, NULL, 0, 0, NULL};
@@ -595,15 +595,15 @@ static PyObject *cells_columns(PyObject *object, PyObject *none) {
   return found;
 }
 
-/* Begins the columns that are told. */
+/* Begins the columns that are described. */
 static int begin_columns(cells *self) {
-  Py_ssize_t told = PyTuple_Size(self->types);
-  if (self->width < 1 || (told != 0 && told != self->width)) {
+  Py_ssize_t described = PyTuple_Size(self->types);
+  if (self->width < 1 || (described != 0 && described != self->width)) {
     PyErr_SetString(PyExc_ValueError, "columns have a width of 1 and more, and as many types or none");
     return 0;
   }
   self->to_columns = 1;
-  while (self->begun < told)
+  while (self->begun < described)
     if (!begin_column(self)) return 0;
   return 1;
 }

@@ -45,7 +45,7 @@ class Series(NamedTuple):
     """The values of a column of a page."""
 
     column: Optional[Column]
-    """What is told of the column, if anything is."""
+    """The column as the page's metadata describes it, if it does."""
     values: "Union[array[Any], List[ValueOf]]"
     """Numbers in an array: of a boolean 0 or 1, of a date the days from 1970, of a timestamp milliseconds from 1970, of a time
     nanoseconds since midnight, and 0 where one is missing. Of other types a list, with the values that `rows` gives."""
@@ -73,7 +73,7 @@ class PageColumns:
     """A page column by column."""
 
     series: Tuple[Series, ...]
-    """One for each column; none where the page has no row and tells no columns."""
+    """One for each column; none where the page has no row and describes no columns."""
     count: int
     """How many rows it says that it has; each series has as many values."""
     paging_state: Optional[bytes]
@@ -140,7 +140,7 @@ class _ColumnCells(_Cells):
         super().__init__(1, types)
         self.count = width
         self.at = 0
-        # those whose types are told; else as many as cells of the first row have come, so that a count that lies gets no memory
+        # those whose types are described; else as many as cells of the first row have come, so that a count that lies gets no memory
         self.found: "List[Union[_Numbers, List[ValueOf]]]" = [
             _Numbers(type.kind) if type.kind in _CODES else [] for type in types
         ]
@@ -173,7 +173,7 @@ class _Columns(_Frames):
     """Makes pages of events, column by column."""
 
     kinds: Tuple[int, ...] = ()
-    """The kinds of the columns of the page under way, where their types are told and none has items; else none."""
+    """The kinds of the columns of the page under way, where their types are described and none has items; else none."""
     body = count = 0
     """How many bytes the frame under way has, and how many rows its page says."""
 
@@ -195,7 +195,7 @@ class _Columns(_Frames):
 
     def page(self, page: Rows) -> PageColumns:
         """The page whose frame has ended."""
-        told, types = page.metadata.columns, self.types_of(page)
+        columns, types = page.metadata.columns, self.types_of(page)
         found: List[Tuple[Any, Optional[bytes]]] = getattr(self.cells, "columns", list)()
         series = []
         for at, (values, missing) in enumerate(found):
@@ -203,7 +203,7 @@ class _Columns(_Frames):
                 numbers: "array[Any]" = array(_CODES[types[at].kind])
                 numbers.frombytes(values)
                 values = numbers
-            series.append(Series(told[at] if told else None, values, None if missing is None else bytes(missing)))
+            series.append(Series(columns[at] if columns else None, values, None if missing is None else bytes(missing)))
         return PageColumns(tuple(series), page.count, page.metadata.paging_state)
 
 
@@ -283,7 +283,7 @@ def columns(
     """The pages of a stream, each once it is whole, column by column. A page is held whole, as by `frames`, and `longest` bounds it.
 
     Where the stream is refused or cut, Refused or Cut is raised after the last page that ends before that place; `events` of Refused has none of
-    the cells of a long page. With `skip` a frame that is refused within its body is passed over, and it is told which. With `lenient` a content
+    the cells of a long page. With `skip` a frame that is refused within its body is passed over, and `skip` is called with it. With `lenient` a content
     that its type does not have is bytes in a list, and in an array a number that is missing.
     """
     found = _Columns(longest, limits.types)

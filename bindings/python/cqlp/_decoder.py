@@ -138,7 +138,7 @@ class Skipped(NamedTuple):
 
 
 Skip = Callable[[Skipped], Any]
-"""Is told of each frame that was passed over."""
+"""Is called with each frame that was passed over."""
 
 
 def _named(names: Any) -> Tuple[Any, ...]:

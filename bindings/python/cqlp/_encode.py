@@ -10,7 +10,7 @@ from ._decoder import _FIELDS, _TAGS, BadCall
 from ._events import Event, camel
 from .numbers import Kind, Mark, Tag
 
-_compiled: Any = _native.compiled("_told")
+_compiled: Any = _native.compiled("_records")
 
 # No event has more bytes in its frame than these and its content.
 _MOST = 24
@@ -51,7 +51,7 @@ def _word(names: Tuple[Any, ...], number: int) -> str:
 def encode(events: Iterable[Event]) -> bytes:
     """The bytes of the frame that has these events. Raises BadEvent."""
     given = tuple(events)
-    records, contents = told(given)
+    records, contents = pack(given)
     encoded = _native.Encoded()
     code, room = _native.NO_ROOM, len(contents) + _MOST * len(given)
     while code == _native.NO_ROOM:
@@ -81,9 +81,9 @@ def encode_frames(events: Iterable[Event]) -> Iterator[bytes]:
         yield encode(frame)
 
 
-def told(events: Tuple[Event, ...]) -> Tuple[bytes, bytes]:
+def pack(events: Tuple[Event, ...]) -> Tuple[bytes, bytes]:
     """The array of cqlp_event of these events, and their contents. Raises TypeError where one is no event."""
-    found: Tuple[bytes, bytes] = _told(events) if _compiled is None else _compiled.told(events, Event)
+    found: Tuple[bytes, bytes] = _pack(events) if _compiled is None else _compiled.pack(events, Event)
     return found
 
 
@@ -92,14 +92,14 @@ def must_be_event(event: Event) -> None:
         raise TypeError("an Event is wanted")
 
 
-def _told(events: Tuple[Event, ...]) -> Tuple[bytes, bytes]:
-    """The array of cqlp_event of these events, and their contents, as _told.c makes them."""
+def _pack(events: Tuple[Event, ...]) -> Tuple[bytes, bytes]:
+    """The array of cqlp_event of these events, and their contents, as _records.c makes them."""
     found = [_record(event) for event in events]
     return b"".join(record for record, _ in found), b"".join(content for _, content in found)
 
 
 def _record(event: Event) -> Tuple[bytes, bytes]:
-    """An event as C has it, and its content. One that C cannot tell is of no tag, so that cqlp_encode refuses it in its turn."""
+    """An event as C has it, and its content. An event that a cqlp_event cannot hold has no tag, so that cqlp_encode refuses it in its turn."""
     must_be_event(event)
     _, content, number, row, column, level, extra, octets, tag, field, kind, opcode, flags, mark = event
     content, octets = b"".join((content,)), b"".join((octets,))

@@ -10,7 +10,7 @@ from .numbers import Field, Kind, Mark, Opcode, Tag
 class Event(NamedTuple):
     """An event: what `include/cqlp.h` says of `cqlp_event`. What its tag has no use for is 0, or no bytes.
 
-    `str(event)` is the line that `cqlp show` writes of it, and `event.value` what it tells, as a Python value. `encode` writes a frame of its
+    `str(event)` is the line that `cqlp show` writes of it, and `event.value` its value in Python. `encode` writes a frame of its
     events: `event._replace(content=b"..")` is another one, and so is `Event(tag=Tag.SHORT, field=Field.CONSISTENCY, number=1)`.
     """
 

@@ -37,7 +37,7 @@ class MessageDecoder:
         self, limits: Limits = Limits(), *, longest: int = 1 << 28, skip: Optional[Skip] = None, lenient: bool = False
     ) -> None:
         """A frame whose body has more than `longest` bytes raises FrameTooLong. With `skip` a frame that is refused within its body is passed over,
-        and it is told which. `lenient` is that of `Decoder`."""
+        and `skip` is called with it. `lenient` is that of `Decoder`."""
         must_be_new(self)
         self._turns = Turns()
         self._decoder = Decoder(limits, room=1024, lenient=lenient)

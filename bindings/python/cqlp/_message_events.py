@@ -300,7 +300,7 @@ def _rows(to: _Fields, message: messages.Rows) -> None:
 
 
 def _cells(events: List[Event], message: messages.Rows) -> None:
-    """The cells of a page. Those of columns that are not told are bytes."""
+    """The cells of a page. Those of columns that are not described are bytes."""
     metadata, width = message.metadata, message.metadata.width
     types = [column.type for column in metadata.columns] or [_RAW] * width
     puts, column = [putting(type) for type in types], 0

@@ -123,7 +123,7 @@ if RECORD.size != ctypes.sizeof(Event):
 VIEW = struct.Struct("@PPPPNNNB0Q")
 
 
-# The number of the layout of these structs, CQLP_LAYOUT of include/cqlp.h, and the calls that tell it to the library.
+# The number of the layout of these structs, CQLP_LAYOUT of include/cqlp.h, and the calls that pass it to the library.
 LAYOUT = 0xCF3119DD
 BY_LAYOUT = frozenset(
     "cqlp_" + name

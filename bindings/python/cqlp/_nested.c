@@ -227,7 +227,7 @@ static int pass_event(nested *self, const cqlp_event *event) {
 
 PyDoc_STRVAR(take_doc, "take(address, at, count): puts those of so many events in memory, from this place on, that are of cells; the place of the first "
                        "that is none, or behind a row that ends the batch; 1 where it does, 2 where a row that is not whole takes more than the "
-                       "memory, and its last event stands before this place, else 0.");
+                       "memory, and its last event is before this place, else 0.");
 
 static PyObject *nested_take(PyObject *object, PyObject *arguments) {
   nested *self = (nested *)object;

@@ -18,14 +18,14 @@ _CELLS = frozenset((Tag.LEAF, Tag.NULL, Tag.EMPTY, Tag.PART, Tag.LEAVE))
 
 
 def cells_size(events: Iterable[Event]) -> int:
-    """How many bytes of a page's cells these events tell of: those of all events of its cells are the `size` of a PageWriter. An event of no cell
-    tells of none. Raises BadEvent with `NO_EVENT`, or `UNBUILT` of a part of a scalar."""
+    """How many bytes of a page's cells these events take up: the sum over all events of its cells is the `size` of a PageWriter. An event of no cell
+    takes up none. Raises BadEvent with `NO_EVENT`, or `UNBUILT` of a part of a scalar."""
     given, measured, before = iter(events), _native.Measured(), 0
     while True:
         some = tuple(itertools.islice(given, _MEASURED))
         if not some:
             return int(measured.size)
-        records, contents = _encode.told(some)
+        records, contents = _encode.pack(some)
         code = _native.library.cqlp_page_measure(records, len(some), contents, len(contents), measured)
         if code:
             _refuse(code, some, measured.event, before)
@@ -141,7 +141,7 @@ class PageWriter:
     def _begin(self, count: int) -> bytes:
         """All before the first cell, of as many events."""
         head, begun = self._held[:count], _native.Encoded()
-        records, contents = _encode.told(tuple(head))
+        records, contents = _encode.pack(tuple(head))
         code = _native.NO_ROOM
         while code == _native.NO_ROOM:
             self._grow(begun.length)
@@ -158,7 +158,7 @@ class PageWriter:
     def _cells(self, count: int) -> bytes:
         """The cells of as many events."""
         events, put, found = self._held[:count], _native.Put(), []
-        records, contents = _encode.told(tuple(events))
+        records, contents = _encode.pack(tuple(events))
         places = _place(records), _place(contents)
         done = used = 0
         while done < count:

@@ -70,9 +70,9 @@ class Page:
 
     def __init__(self, pages: "Pages", columns: Tuple[Column, ...], width: int, count: int, state: Optional[bytes]) -> None:
         self.columns = columns
-        """Its columns; none where its metadata tell none."""
+        """Its columns; none where its metadata describes none."""
         self.width = width
-        """How many columns it has, also where none are told."""
+        """How many columns it has, also where none are described."""
         self.count = count
         """How many rows it says that it has."""
         self.paging_state = state
@@ -96,8 +96,8 @@ class Page:
 class Pages:
     """The pages of a stream, one after the other; each is to be used before the next is asked for.
 
-    Of frames that are no page nothing is told. Where the stream is refused or cut, the error comes after the last row before
-    that place. With `skip` a frame that is refused within its body is passed over, and it is told which, after the last row before that
+    Frames that are no page are passed over. Where the stream is refused or cut, the error comes after the last row before
+    that place. With `skip` a frame that is refused within its body is passed over, and `skip` is called with it after the last row before that
     place: so a page may give fewer rows than its `count`. Threads that share it take rows in turn; where one reads on in the stream another
     that would do so too gets InUse at once.
     """
@@ -232,8 +232,8 @@ _LEAF, _NULL, _EMPTY, _ENTER, _LEAVE, _PART = map(int, (Tag.LEAF, Tag.NULL, Tag.
 def _found(
     pages: Pages, batches: Iterator[Batch], typed: bool, given: Optional[Tuple[Column, ...]] = None
 ) -> Iterator[Union[Page, List[Row]]]:
-    """Each page, and after it its rows, in a list for each batch that ended some; whether cells are read by the types of their
-    columns is told, and which columns were given."""
+    """Each page, and after it its rows, in a list for each batch that ended some. `typed` says whether cells are read by the types of their
+    columns, and `given` are the columns of a page without metadata."""
     metadata, cells = _Metadata(), _cells(0, ())
     for batch in batches:
         at, count = 0, len(batch)
@@ -297,7 +297,7 @@ class _Cells:
             record, content = batch[at]
             tag = record[9]
             if tag == _LEAF and not record[6]:
-                # most are such, so this stands here and not in a call
+                # most cells are scalars, so this is here and not in a call
                 row.append(LEAVES[record[11]](record[3], content, record[7], record[8][: record[15]]))
                 whole = len(row) == width
             elif _LEAF <= tag <= _PART:
@@ -354,8 +354,8 @@ def rows(
     skip: Optional[Skip] = None,
     lenient: bool = False,
 ) -> Iterator[Row]:
-    """The rows of all pages of a stream, as tuples. `types` are those of pages without metadata, and `skip` is told of each frame that is
-    passed over, as in `Pages`, and so is `lenient`. `close()` of what it gives lets go of the source."""
+    """The rows of all pages of a stream, as tuples. `types` are those of pages without metadata, and `skip` is called with each frame that is
+    passed over, as in `Pages`; `lenient` is that of `Pages` too. `close()` of what it gives lets go of the source."""
     found = Pages(source, limits, piece=piece, progress=progress, types=types, skip=skip, lenient=lenient)._found
     made: Iterator[Row] = _rows_of(found) if _compiled is None else _compiled.Rows(found)
     return made

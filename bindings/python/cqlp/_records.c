@@ -1,5 +1,5 @@
-/* Makes of events of Python what cqlp_encode takes: an array of cqlp_event and their contents, one after the other, as `_told` of _encode.py
- * does. It calls nothing of libcqlp. It is of the stable ABI, from Python 3.9 on, and bindings/build makes cqlp/_told.abi3.so of it. Where that
+/* Makes of events of Python what cqlp_encode takes: an array of cqlp_event and their contents, one after the other, as `_pack` of _encode.py
+ * does. It calls nothing of libcqlp. It is of the stable ABI, from Python 3.9 on, and bindings/build makes cqlp/_records.abi3.so of it. Where that
  * is not there, _encode.py does it alone. */
 #define Py_LIMITED_API 0x03090000
 #define PY_SSIZE_T_CLEAN
@@ -106,33 +106,33 @@ static int has_octets(const cqlp_event *event) {
 }
 
 /* Writes an event with these numbers, octets and content, and adds the content. */
-static int put(const int64_t numbers[MEMBERS], PyObject *octets, PyObject *content, cqlp_event *told, contents *to) {
-  told->number = numbers[NUMBER];
-  told->row = (uint32_t)numbers[ROW];
-  told->column = (uint32_t)numbers[COLUMN];
-  told->level = (uint32_t)numbers[LEVEL];
-  told->extra = (int32_t)numbers[EXTRA];
-  told->tag = (uint8_t)numbers[TAG];
-  told->field = (uint8_t)numbers[FIELD];
-  told->kind = (uint8_t)numbers[KIND];
-  told->opcode = (uint8_t)numbers[OPCODE];
-  told->flags = (uint8_t)numbers[FLAGS];
-  told->mark = (uint8_t)numbers[MARK];
-  told->octets = (uint8_t)PyBytes_Size(octets);
-  memcpy(told->bytes, PyBytes_AsString(octets), told->octets);
-  if (!has_octets(told)) {
-    memset(told, 0, sizeof *told);
+static int put(const int64_t numbers[MEMBERS], PyObject *octets, PyObject *content, cqlp_event *record, contents *to) {
+  record->number = numbers[NUMBER];
+  record->row = (uint32_t)numbers[ROW];
+  record->column = (uint32_t)numbers[COLUMN];
+  record->level = (uint32_t)numbers[LEVEL];
+  record->extra = (int32_t)numbers[EXTRA];
+  record->tag = (uint8_t)numbers[TAG];
+  record->field = (uint8_t)numbers[FIELD];
+  record->kind = (uint8_t)numbers[KIND];
+  record->opcode = (uint8_t)numbers[OPCODE];
+  record->flags = (uint8_t)numbers[FLAGS];
+  record->mark = (uint8_t)numbers[MARK];
+  record->octets = (uint8_t)PyBytes_Size(octets);
+  memcpy(record->bytes, PyBytes_AsString(octets), record->octets);
+  if (!has_octets(record)) {
+    memset(record, 0, sizeof *record);
     return 1;
   }
-  if (!has_content(told)) return 1;
-  told->length = (size_t)PyBytes_Size(content);
+  if (!has_content(record)) return 1;
+  record->length = (size_t)PyBytes_Size(content);
   return add(to, PyBytes_AsString(content), PyBytes_Size(content));
 }
 
-/* Takes an event. One that C cannot tell is of no tag, so that cqlp_encode refuses it in its turn. */
-static int take(PyObject *event, PyObject *type, cqlp_event *told, contents *to) {
+/* Takes an event. An event that a cqlp_event cannot hold has no tag, so that cqlp_encode refuses it in its turn. */
+static int take(PyObject *event, PyObject *type, cqlp_event *record, contents *to) {
   int64_t numbers[MEMBERS];
-  memset(told, 0, sizeof *told);
+  memset(record, 0, sizeof *record);
   int is_event = PyObject_IsInstance(event, type);
   if (is_event < 0) return 0;
   if (!is_event || !PyTuple_Check(event) || PyTuple_Size(event) != MEMBERS) {
@@ -143,16 +143,16 @@ static int take(PyObject *event, PyObject *type, cqlp_event *told, contents *to)
   PyObject *octets = content == NULL ? NULL : bytes_of(PyTuple_GetItem(event, OCTETS));
   int fits = octets == NULL ? -1 : read_numbers(event, numbers);
   int done = fits >= 0;
-  if (fits > 0 && PyBytes_Size(octets) <= (Py_ssize_t)sizeof told->bytes) done = put(numbers, octets, content, told, to);
+  if (fits > 0 && PyBytes_Size(octets) <= (Py_ssize_t)sizeof record->bytes) done = put(numbers, octets, content, record, to);
   Py_XDECREF(content);
   Py_XDECREF(octets);
   return done;
 }
 
-PyDoc_STRVAR(told_doc, "told(events, type): of a tuple of events, each of this type, the bytes of an array of cqlp_event, and those of their "
+PyDoc_STRVAR(pack_doc, "pack(events, type): of a tuple of events, each of this type, the bytes of an array of cqlp_event, and those of their "
                        "contents.");
 
-static PyObject *told(PyObject *module, PyObject *arguments) {
+static PyObject *pack(PyObject *module, PyObject *arguments) {
   PyObject *events, *type;
   (void)module;
   if (!PyArg_ParseTuple(arguments, "OO", &events, &type)) return NULL;
@@ -176,7 +176,7 @@ static PyObject *told(PyObject *module, PyObject *arguments) {
 }
 
 static PyMethodDef methods[] = {
-    {"told", told, METH_VARARGS, told_doc},
+    {"pack", pack, METH_VARARGS, pack_doc},
     {NULL, NULL, 0, NULL},
 };
 
@@ -191,11 +191,11 @@ static PyModuleDef_Slot slots[] = {
 
 static struct PyModuleDef module = {
     .m_base = PyModuleDef_HEAD_INIT,
-    .m_name = "cqlp._told",
+    .m_name = "cqlp._records",
     .m_methods = methods,
     .m_slots = slots,
 };
 
-PyMODINIT_FUNC PyInit__told(void) {
+PyMODINIT_FUNC PyInit__records(void) {
   return PyModuleDef_Init(&module);
 }

@@ -16,7 +16,7 @@ else:
 """Bytes, in any buffer; the path of a file; or a binary file that is open, also a pipe."""
 
 Progress = Callable[[int, Optional[int]], None]
-"""Is told, after each piece, how many bytes were read, and of how many, or None where that is not known."""
+"""Is called after each piece with how many bytes were read, and of how many, or None where that is not known."""
 
 
 def _pieces(source: Source, size: int) -> Iterator[Tuple[bytes, Optional[int]]]:
@@ -161,7 +161,7 @@ def events(
     lenient: bool = False,
 ) -> Iterator[Event]:
     """The events of a stream, read in pieces of at most this many bytes. After the last event, Refused or Cut is raised where the
-    stream is refused or cut. With `skip` a frame that is refused within its body is passed over, and it is told which: the events go on with
+    stream is refused or cut. With `skip` a frame that is refused within its body is passed over, and `skip` is called with it: the events go on with
     the next frame. `lenient` is that of `Decoder`.
 
     A file that does not block raises BlockingIOError where nothing came yet; a Decoder is for those. A buffer that can be resized cannot be as

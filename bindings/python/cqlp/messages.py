@@ -410,12 +410,12 @@ def _one_table(columns: Tuple[Column, ...]) -> int:
 
 @dataclass(frozen=True)
 class Metadata:
-    """What is told of columns. Section 4.2.5.2."""
+    """Describes the columns of a result. Section 4.2.5.2."""
 
     flags: int
-    """1 one table for all columns, 2 more pages, 4 no columns are told."""
+    """1 one table for all columns, 2 more pages, 4 no columns are described."""
     width: int
-    """How many columns there are, also where none are told."""
+    """How many columns there are, also where none are described."""
     paging_state: Optional[bytes]
     """Where the result goes on, or None where this is its last page."""
     columns: Tuple[Column, ...]
@@ -479,7 +479,7 @@ class Prepared(Message):
     bound: Tuple[Column, ...]
     """The values that are to be bound."""
     result: Metadata
-    """What the statement's pages will tell of their columns."""
+    """Describes the columns of the statement's pages."""
 
     @classmethod
     def of(
@@ -512,7 +512,7 @@ class SchemaChange(Message):
     change: str
     """CREATED, UPDATED or DROPPED; another text is kept."""
     target: str
-    """What was changed: KEYSPACE, TABLE, TYPE, FUNCTION or AGGREGATE; of another text nothing more is told."""
+    """What was changed: KEYSPACE, TABLE, TYPE, FUNCTION or AGGREGATE; after another text no more is read."""
     keyspace: Optional[str] = None
     name: Optional[str] = None
     """Of all but a keyspace."""
@@ -901,7 +901,7 @@ def frames(
     """The frames of a stream, each once it is whole: a page is held with all of its rows.
 
     Where the stream is refused or cut, Refused or Cut is raised after the last frame that ends before that place. With `skip` a frame that is
-    refused within its body is passed over, and it is told which. A frame whose body has more than `longest` bytes raises FrameTooLong before
+    refused within its body is passed over, and `skip` is called with it. A frame whose body has more than `longest` bytes raises FrameTooLong before
     its body is held. With `lenient` a content that its type does not have is bytes.
     """
     found = _Frames(longest, limits.types)

@@ -51,10 +51,10 @@ def read(data: bytes) -> None:
         state: Optional[bytes] = page.paging_state
         assert (column.name, type.kind, state, len(list(page))) == ("c", Kind.INT, None, len(rows))
     for in_columns in cqlp.columns(data, longest=1 << 20):
-        told: cqlp.PageColumns = in_columns
-        series: cqlp.Series = told["c"]
+        page_columns: cqlp.PageColumns = in_columns
+        series: cqlp.Series = page_columns["c"]
         numbers = series.values
-        assert isinstance(numbers, array) and len(numbers) == told.count and series.missing is None
+        assert isinstance(numbers, array) and len(numbers) == page_columns.count and series.missing is None
     batches: cqlp.Batches = cqlp.arrays(data, rows=100)
     for batch in batches:
         arrays: cqlp.ArrayBatch = batch

@@ -20,7 +20,7 @@ from cqlp._pages import _frozen
 from cqlp._values import LEAVES
 
 from .streams import BINDINGS, streams
-from .test_cells import told
+from .test_cells import exact
 from .test_pages import INT, NOTHING, NULL, SCALARS, VARCHAR, cell, list_of, made, page
 
 BOOLEAN = b"\0\4"
@@ -134,7 +134,7 @@ class Arrays(unittest.TestCase):
             for piece in pieces:
                 batches, end = read(data, limits, piece=piece, rows=most)
                 self.holds(batches, most)
-                self.assertEqual(told(rows_of(batches)), told(wanted))
+                self.assertEqual(exact(rows_of(batches)), exact(wanted))
                 self.assertEqual(end, ending)
 
     def test_each_cut_of_a_page(self) -> None:
@@ -256,7 +256,7 @@ class Arrays(unittest.TestCase):
                     for column, other in zip(one.arrays, two.arrays):
                         if not any(word in str(column.column) for word in ("Kind.SET", "Kind.MAP")):
                             self.assertEqual(column, other, stream.name)
-                self.assertEqual((told(rows_of(given[0])), given[1]), (told(rows_of(wanted[0])), wanted[1]), stream.name)
+                self.assertEqual((exact(rows_of(given[0])), given[1]), (exact(rows_of(wanted[0])), wanted[1]), stream.name)
 
     def test_columns_by_name_of_all_streams(self) -> None:
         """Those that are left out change nothing in the others, and are checked too."""
@@ -350,7 +350,7 @@ class Arrays(unittest.TestCase):
 
     @unittest.skipUnless(_arrays._batches, "the module in C was not built")
     def test_many_events_before_the_rows(self) -> None:
-        """Those of frames that are no page do not stand in memory together."""
+        """Those of frames that are no page are not in memory together."""
         batch = cqlp.messages.Query("SELECT", values=[b"x"] * 60_000)
         data = cqlp.encode(batch) + SMALL
         self.assertEqual(rows_of(read(data)[0]), list(cqlp.rows(SMALL)))
@@ -361,7 +361,7 @@ class Arrays(unittest.TestCase):
         self.assertLess(peak, 2_000_000)
 
     @unittest.skipUnless(_arrays._batches, "the module in C was not built")
-    def test_the_module_in_c_is_told_of_no_columns(self) -> None:
+    def test_the_module_in_c_is_given_no_columns(self) -> None:
         none = _native.Handle(0, None)
         place = ctypes.addressof(none)
         for wrong in ((0, place, 1), (_arrays._GET, 0, 1), (_arrays._GET, place, 1), (_arrays._GET, place, 0)):
@@ -447,9 +447,9 @@ class Arrays(unittest.TestCase):
         wanted = rows_of(read(SMALL * 3)[0])
         for source in (bytearray(SMALL * 3), memoryview(SMALL * 3)):
             self.assertEqual(rows_of(read(source, piece=5)[0]), wanted)
-        told_of: List[Any] = []
-        list(cqlp.arrays(SMALL, piece=50, progress=lambda *one: told_of.append(one)))
-        self.assertEqual(told_of, [(50, len(SMALL)), (len(SMALL), len(SMALL))])
+        reports: List[Any] = []
+        list(cqlp.arrays(SMALL, piece=50, progress=lambda *one: reports.append(one)))
+        self.assertEqual(reports, [(50, len(SMALL)), (len(SMALL), len(SMALL))])
 
     def test_a_batch_lives_on(self) -> None:
         data = made("rows", "100")

@@ -344,8 +344,8 @@ class Arrow(unittest.TestCase):
         for at in range(array.n_children):
             self.aligned(array.children[at][0])
 
-    def laid_out(self, told: Any, schema: Any) -> None:
-        cells, nulls, (validity, *buffers), items = told
+    def laid_out(self, parts: Any, schema: Any) -> None:
+        cells, nulls, (validity, *buffers), items = parts
         form, _, _, _, children = schema
         if validity is not None:
             self.assertEqual(len(validity), (cells + 7) // 8)
@@ -553,7 +553,7 @@ class Arrow(unittest.TestCase):
         self.assertEqual(read(cqlp.arrays(page + page[:-1])), ([(1,)], b"cut after 83 bytes, within the frame at 42"))
         self.assertRaises(cqlp.Cut, cqlp.arrays(page[:-1]).__arrow_c_stream__)
 
-    def test_names_and_types_that_c_cannot_tell(self) -> None:
+    def test_names_and_types_that_c_cannot_hold(self) -> None:
         (batch,) = cqlp.arrays(cqlp.encode(messages.Rows.of([("a\0b", Type.udt("k.u", [("c\0", "int")]))], [({"c\0": 1},)])))
         (_, name, _, _, inner), column = taken(batch["a\0b"])
         self.assertEqual((name, inner[0][1], column), (b"a\\0b", b"c\\0", [(1,)]))

@@ -33,16 +33,16 @@ def read(data: bytes, limits: cqlp.Limits, piece: int, compiled: Any) -> Tuple[l
     return pages, None
 
 
-def told(value: Any) -> Any:
-    """A value with its type and, of a float, its bytes, which tell values apart that are equal, and equal what is no number."""
+def exact(value: Any) -> Any:
+    """A value with its type and, of a float, its bytes: so values of two types differ that are equal, and NaN equals itself."""
     if isinstance(value, float):
         return struct.pack(">d", value)
     if isinstance(value, (list, tuple)):
-        return type(value), [told(item) for item in value]
+        return type(value), [exact(item) for item in value]
     if isinstance(value, dict):
-        return dict, [(told(key), told(item)) for key, item in value.items()]
+        return dict, [(exact(key), exact(item)) for key, item in value.items()]
     if isinstance(value, (set, frozenset)):
-        return type(value), sorted(repr(told(item)) for item in value)
+        return type(value), sorted(repr(exact(item)) for item in value)
     return type(value), repr(value)
 
 
@@ -52,7 +52,7 @@ class Cells(unittest.TestCase):
         for piece in pieces:
             pages, end = read(data, limits, piece, _pages._compiled)
             wanted, wanted_end = read(data, limits, piece, None)
-            self.assertEqual(told(pages), told(wanted))
+            self.assertEqual(exact(pages), exact(wanted))
             self.assertEqual(end, wanted_end)
 
     def test_rows_one_by_one(self) -> None:

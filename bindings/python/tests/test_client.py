@@ -164,7 +164,7 @@ class Client(unittest.TestCase):
             self.assertEqual(sorted(ids), list(range(2000)))
 
 
-def told() -> Iterator[str]:
+def lines_of_names() -> Iterator[str]:
     for group in cqlp.Group:
         for number in range(-300, 1 << 14):
             word = cqlp.name(group, number)
@@ -174,7 +174,7 @@ def told() -> Iterator[str]:
 
 class Names(unittest.TestCase):
     def test_names_are_those_of_the_sources(self) -> None:
-        self.assertEqual(list(told()), (BINDINGS / "names.txt").read_text().splitlines())
+        self.assertEqual(list(lines_of_names()), (BINDINGS / "names.txt").read_text().splitlines())
 
     def test_other_groups_and_numbers_have_none(self) -> None:
         for group, number in ((0, 0), (17, 0), (-1, 0), (1 << 32 | 1, 0), (1, -1), (1, 1 << 63), (1, -(1 << 63) - 1), (13, 1 << 64)):

@@ -17,7 +17,7 @@ from cqlp import Kind, _columns, _native, _pages
 from cqlp import messages as m
 
 from .streams import BINDINGS, streams
-from .test_cells import told
+from .test_cells import exact
 from .test_pages import COMPILED, INT, NOTHING, NULL, SCALARS, VARCHAR, cell, list_of, made, page, text
 
 ITEMS = {Kind.BOOLEAN: "b", Kind.TINYINT: "b", Kind.SMALLINT: "h", Kind.INT: "i", Kind.DATE: "i", Kind.FLOAT: "f", Kind.DOUBLE: "d"}
@@ -35,7 +35,7 @@ def number(value: Any) -> Any:
 def series_of(column: Optional[cqlp.Column], typed: bool, values: List[Any]) -> Tuple[Any, ...]:
     code = ITEMS.get(column.type.kind) if column is not None and typed else None
     if code is None:
-        return column, told(values), None
+        return column, exact(values), None
     absent = bytes({None: 1, cqlp.EMPTY: 2}.get(value, 0) if value is None or value is cqlp.EMPTY else 0 for value in values)
     numbers = array(code, [0 if value is None or value is cqlp.EMPTY else number(value) for value in values])
     return column, (code, list(map(repr, numbers))), absent if any(absent) else None
@@ -51,7 +51,7 @@ def wanted(frame: m.Frame, typed: bool) -> Tuple[Any, ...]:
 def shown(found: cqlp.PageColumns) -> Tuple[Any, ...]:
     series = []
     for one in found.series:
-        values = (one.values.typecode, list(map(repr, one.values))) if isinstance(one.values, array) else told(one.values)
+        values = (one.values.typecode, list(map(repr, one.values))) if isinstance(one.values, array) else exact(one.values)
         series.append((one.column, values, one.missing))
     return series, found.count, found.paging_state
 
@@ -166,7 +166,7 @@ class Columns(unittest.TestCase):
         self.assertRaises(KeyError, lambda: second["column2"])
 
     def test_a_number_of_columns_that_lies_takes_no_memory(self) -> None:
-        """Columns that are not told, 2,147,483,647 of them, with no row and with one; and as many as the body can have."""
+        """Columns that are not described, 2,147,483,647 of them, with no row and with one; and as many as the body can have."""
         for compiled, sizes in WAYS:
             for width, rows, length, end in (
                 (0x7FFFFFFF, 0, 16, None),

@@ -45,9 +45,9 @@ class Numbers(unittest.TestCase):
             "GROUP": numbers.Group,
         }
         for group, names in groups.items():
-            told = re.findall(r"#define CQLP_%s_(\w+) (0x[0-9A-F]+|\d+)" % group, header)
+            defined = re.findall(r"#define CQLP_%s_(\w+) (0x[0-9A-F]+|\d+)" % group, header)
             self.assertEqual(
-                {name: int(number, 0) for name, number in told},
+                {name: int(number, 0) for name, number in defined},
                 {name.name: int(name) for name in names if (group, name.name) != ("FIELD", "NONE")},
             )
 

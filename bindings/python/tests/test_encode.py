@@ -25,8 +25,8 @@ QUERY = (
 )
 
 
-class Told(NamedTuple):
-    """A whole frame of a stream."""
+class WholeFrame(NamedTuple):
+    """A whole frame of a stream, with its events."""
 
     name: str
     limits: cqlp.Limits
@@ -34,7 +34,7 @@ class Told(NamedTuple):
     events: Tuple[Event, ...]
 
 
-def frames() -> Iterator[Told]:
+def frames() -> Iterator[WholeFrame]:
     for stream in streams():
         events: List[Event] = []
         with cqlp.Decoder(stream.limits) as decoder:
@@ -45,7 +45,7 @@ def frames() -> Iterator[Told]:
         for event in found:
             events = [event] if event.tag == Tag.FRAME else events + [event]
             if event.tag == Tag.END:
-                yield Told(stream.name, stream.limits, stream.bytes[events[0].at : event.at], tuple(events))
+                yield WholeFrame(stream.name, stream.limits, stream.bytes[events[0].at : event.at], tuple(events))
 
 
 def has(events: Tuple[Event, ...], tag: Tag) -> bool:
@@ -53,14 +53,14 @@ def has(events: Tuple[Event, ...], tag: Tag) -> bool:
     return any(event.tag == tag for event in events)
 
 
-def refusal(frame: Told) -> Optional[Code]:
+def refusal(frame: WholeFrame) -> Optional[Code]:
     """Why it is not written, if it is not: a scalar of a cell comes in parts, or cells were read without their types."""
     if has(frame.events, Tag.PART):
         return Code.UNBUILT
     return Code.NO_SUCH_FRAME if has(frame.events, Tag.TYPE_NODE) and not frame.limits.types else None
 
 
-def spelled(frame: Told) -> bytes:
+def spelled(frame: WholeFrame) -> bytes:
     """The bytes of a frame without those after its last field, with a null of the length -1, and with 1 for true. There is no other way to spell
     it."""
     data, base = bytearray(frame.bytes), frame.events[0].at
@@ -94,7 +94,7 @@ USED = {
 
 
 def plain(event: Event) -> Event:
-    """What is told of a field, without what its tag has no use for, offsets, and lengths of frames."""
+    """An event with the members that its tag uses, without offsets and lengths of frames."""
     if event.tag in (Tag.BYTES, Tag.BOUND):
         used: Tuple[str, ...] = ("field", "mark", "content") if event.mark == Mark.NONE else ("field", "mark")
     elif event.tag == Tag.LEAF:
@@ -194,11 +194,11 @@ class Encodes(unittest.TestCase):
         for stream in streams():
             if not stream.verdict.startswith("whole"):
                 continue
-            told = [frame for frame in frames() if frame.name == stream.name]
-            if any(refusal(frame) for frame in told):
+            whole = [frame for frame in frames() if frame.name == stream.name]
+            if any(refusal(frame) for frame in whole):
                 continue
             events = iter(list(cqlp.events(stream.bytes, stream.limits)))
-            self.assertEqual(b"".join(cqlp.encode_frames(events)), b"".join(map(spelled, told)), stream.name)
+            self.assertEqual(b"".join(cqlp.encode_frames(events)), b"".join(map(spelled, whole)), stream.name)
             count += 1
         self.assertGreaterEqual(count, 60)
 
@@ -307,12 +307,12 @@ class Encodes(unittest.TestCase):
         values = [Event(tag=Tag.LEAF, kind=kind, content=b"abc", octets=bytes(count)) for kind in Kind for count in (0, 4, 8, 16)]
         rest = [Event(tag=tag, mark=mark, content=b"abc", octets=bytes(16), row=2**32 - 1, extra=-5) for tag in Tag for mark in Mark]
         events = tuple(values + rest)
-        records, contents = _encode._compiled.told(events, Event)
-        self.assertEqual((records, contents), _encode._told(events))
+        records, contents = _encode._compiled.pack(events, Event)
+        self.assertEqual((records, contents), _encode._pack(events))
         self.assertEqual(len(records), len(events) * _encode._compiled.EVENT_SIZE)
         counts = [sys.getrefcount(event) for event in events]
         for _ in range(100):
-            _encode._compiled.told(events, Event)
+            _encode._compiled.pack(events, Event)
         self.assertEqual([sys.getrefcount(event) for event in events], counts)
 
 

@@ -11,7 +11,7 @@ import cqlp
 from cqlp import _pages, messages
 
 from .streams import BINDINGS, streams
-from .test_cells import told
+from .test_cells import exact
 from .test_messages import endings, others
 
 CHANGES = int(os.environ.get("CQLP_CHANGES", 100_000)) // 20
@@ -74,7 +74,7 @@ class Decoders(unittest.TestCase):
                         self.assertEqual(other.header, stream.bytes[other.at : other.at + 9])
                         self.assertEqual(wanted[1], (cqlp.Refused, other.at, cqlp.Reason.BAD_VERSION))
                         ending = wanted[1]
-                    self.assertEqual((told(found), ending), (told(wanted[0]), wanted[1]), (stream.name, size))
+                    self.assertEqual((exact(found), ending), (exact(wanted[0]), wanted[1]), (stream.name, size))
 
     def test_pieces_of_any_buffer(self) -> None:
         for made in (bytes, bytearray, memoryview):
@@ -174,10 +174,10 @@ class Decoders(unittest.TestCase):
             if found and isinstance(found[-1], cqlp.OtherVersion):
                 found.pop()
                 ending = wanted[1]
-            self.assertEqual((told(found), ending), (told(wanted[0]), wanted[1]), data.hex())
+            self.assertEqual((exact(found), ending), (exact(wanted[0]), wanted[1]), data.hex())
             for frame in found:
                 (again,) = cqlp.frames(cqlp.encode(frame))
-                self.assertEqual(told(again.message), told(frame.message), data.hex())
+                self.assertEqual(exact(again.message), exact(frame.message), data.hex())
                 written += 1
             count += 1
         self.assertGreater(written, CHANGES // 4)

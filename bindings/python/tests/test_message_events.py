@@ -17,7 +17,7 @@ from cqlp import EMPTY, UNSET, BadValue, Consistency, ErrorCode, Event, Tag, Typ
 from cqlp import messages as m
 
 from .streams import streams
-from .test_cells import told
+from .test_cells import exact
 from .test_encode import COMPILED, frames, refusal, spelled
 from .test_messages import endings, others
 
@@ -188,7 +188,7 @@ class Messages(unittest.TestCase):
                 data = cqlp.encode(frame)
                 (again,) = cqlp.frames(data, stream.limits)
                 expected = dataclasses.replace(frame, at=0, length=len(data) - 9, extra=0)
-                self.assertEqual(told(vars(again)), told(vars(expected)), stream.name)
+                self.assertEqual(exact(vars(again)), exact(vars(expected)), stream.name)
                 same += data == raw
                 if data != raw and stream.name not in OTHER_SPELLING:
                     self.assertIn(data, set(spellings(frame, raw)), stream.name)
@@ -236,7 +236,7 @@ class Values(unittest.TestCase):
         for type, values in VALUES.items():
             page = m.Rows.of([("a", type), ("b", type)], [(value, None) for value in values] + [(None, None)])
             (frame,) = cqlp.frames(cqlp.encode(page))
-            self.assertEqual(told(frame.message.rows), told(page.rows), type)
+            self.assertEqual(exact(frame.message.rows), exact(page.rows), type)
             self.assertEqual(frame.message, page)
             for row, value in enumerate(values):
                 events = [event._replace(at=0) for event in cqlp.cell_events(type, value, row, 1)]
@@ -286,7 +286,7 @@ class Values(unittest.TestCase):
         )
         for type, given, wanted in same:
             (frame,) = cqlp.frames(cqlp.encode(m.Rows.of([("a", type)], [(given,)])))
-            self.assertEqual(told(frame.message.rows), told([(wanted,)]))
+            self.assertEqual(exact(frame.message.rows), exact([(wanted,)]))
 
 
 TWO_THOUSAND = datetime.datetime(2000, 1, 1, 0, 0, 0, 1000, tzinfo=UTC)

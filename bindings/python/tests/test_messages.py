@@ -15,7 +15,7 @@ from cqlp import Tag, _pages
 from cqlp import messages as m
 
 from .streams import BINDINGS, Stream, streams
-from .test_cells import told
+from .test_cells import exact
 from .test_pages import INT, NULL, cell, list_of, made, page, text
 
 Line = Tuple[Any, Any]
@@ -98,7 +98,7 @@ def option(x: cqlp.Type) -> List[Line]:
 
 
 def columns(flags: int, found: Tuple[cqlp.Column, ...], lines: List[Line]) -> List[Line]:
-    """The specs; where one table is told for all, it stands in `lines`, since there may be no column."""
+    """The specs; where all have one table, it is in `lines`, since there may be no column."""
     if flags & 1:
         (_, keyspace), (_, table) = lines
         for column in found:
@@ -164,7 +164,7 @@ def metadata(x: m.Metadata, one_table: List[Line]) -> List[Line]:
 
 
 def one_table_of(events: List[Line]) -> List[List[Line]]:
-    """Keyspaces and tables that stand right after a count or a state: those of all columns of a metadata, where one is told for all."""
+    """Keyspaces and tables right after a count or a state: those of a metadata whose columns have one table."""
     found = []
     for at, (field, _) in enumerate(events):
         follows = (F.KEYSPACE, F.TABLE) == tuple(other for other, _ in events[at + 1 : at + 3])
@@ -274,14 +274,14 @@ class Messages(unittest.TestCase):
         for frame, end in zip(frames, ends):
             head, *parts, last = events[begin : end + 1]
             begin = end + 1
-            told_of_head = (head.at, head.mark == cqlp.Mark.RESPONSE, head.flags, head.extra, head.opcode, head.number, last.number)
+            header_of_event = (head.at, head.mark == cqlp.Mark.RESPONSE, head.flags, head.extra, head.opcode, head.number, last.number)
             header = (frame.at, frame.response, frame.flags, frame.stream, frame.opcode, frame.length, frame.extra)
-            self.assertEqual(header, told_of_head)
+            self.assertEqual(header, header_of_event)
             wanted = [line_of(event) for event in parts if not Tag.LEAF <= event.tag <= Tag.PART]
             self.assertEqual(lines_of(frame, wanted), wanted)
             if isinstance(frame.message, m.Rows):
                 alone = stream.bytes[frame.at : frame.at + 9 + frame.length]
-                self.assertEqual(told(frame.message.rows), told(list(cqlp.rows(alone, stream.limits))))
+                self.assertEqual(exact(frame.message.rows), exact(list(cqlp.rows(alone, stream.limits))))
 
     def test_cut_streams_end_where_their_events_end(self) -> None:
         for stream in [*streams(), *others()]:
@@ -290,14 +290,14 @@ class Messages(unittest.TestCase):
                 frames, ending = endings(cqlp.frames, stream.bytes[:at], stream.limits)
                 events, wanted = endings(cqlp.events, stream.bytes[:at], stream.limits)
                 ended = sum(event.tag == Tag.END for event in events)
-                self.assertEqual((ending, told(frames)), (wanted, told(whole[:ended])), (stream.name, at))
+                self.assertEqual((ending, exact(frames)), (wanted, exact(whole[:ended])), (stream.name, at))
 
     def test_pieces_do_not_matter(self) -> None:
         for stream in [*streams(), *others()]:
             whole = endings(cqlp.frames, stream.bytes, stream.limits)
             for piece in (1, 7):
                 pieces = endings(lambda: cqlp.frames(stream.bytes, stream.limits, piece=piece))
-                self.assertEqual(told(pieces[0]), told(whole[0]), stream.name)
+                self.assertEqual(exact(pieces[0]), exact(whole[0]), stream.name)
                 self.assertEqual(pieces[1], whole[1])
 
     def test_numbers_have_their_names(self) -> None:

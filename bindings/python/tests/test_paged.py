@@ -11,7 +11,7 @@ from unittest import mock
 import cqlp
 from cqlp import BadEvent, Code, Event, Field, Kind, Mark, Opcode, PageWriter, Tag, _encode, cells_size
 
-from .test_encode import COMPILED, Told, frames, mutated, refusal, spelled
+from .test_encode import COMPILED, WholeFrame, frames, mutated, refusal, spelled
 
 CHANGES = 5_000
 
@@ -20,13 +20,13 @@ def is_rows(event: Event) -> bool:
     return event.tag == Tag.COUNT and event.field == Field.ROWS
 
 
-def pages() -> Iterator[Told]:
+def pages() -> Iterator[WholeFrame]:
     """Those that can be written, of the streams and of pages.bin."""
     data = (Path(__file__).resolve().parents[2] / "pages.bin").read_bytes()
     events = list(cqlp.events(data))
     ends = [at for at, event in enumerate(events, 1) if event.tag == Tag.END]
     parts = [tuple(events[first:last]) for first, last in zip([0] + ends, ends)]
-    of_file = [Told("pages.bin", cqlp.Limits(), data[part[0].at : part[-1].at], part) for part in parts]
+    of_file = [WholeFrame("pages.bin", cqlp.Limits(), data[part[0].at : part[-1].at], part) for part in parts]
     for frame in itertools.chain(frames(), of_file):
         if any(map(is_rows, frame.events)) and refusal(frame) is None:
             yield frame
@@ -96,18 +96,18 @@ class WritesPages(unittest.TestCase):
         self.assertGreaterEqual(count, 21)
 
     def test_a_page_passes(self) -> None:
-        """Its size is what its body has after the head, and is told when the count of the rows comes."""
-        for told in pages():
-            with cqlp.Decoder(told.limits) as decoder, PageWriter() as page:
+        """Its size is what its body has after the head, and is set when the count of the rows comes."""
+        for frame in pages():
+            with cqlp.Decoder(frame.limits) as decoder, PageWriter() as page:
                 found = b""
-                for at in range(0, len(told.bytes), 7):
-                    for event in decoder.decode(told.bytes[at : at + 7]):
+                for at in range(0, len(frame.bytes), 7):
+                    for event in decoder.decode(frame.bytes[at : at + 7]):
                         if is_rows(event):
-                            page.size = len(told.bytes) - event.at - 4 - told.events[-1].number
-                            self.assertEqual(page.size, cells_size(told.events))
+                            page.size = len(frame.bytes) - event.at - 4 - frame.events[-1].number
+                            self.assertEqual(page.size, cells_size(frame.events))
                         found += page.put([event])
                 page.end()
-            self.assertEqual(found, spelled(told), told.name)
+            self.assertEqual(found, spelled(frame), frame.name)
 
     def test_cells_are_measured(self) -> None:
         nulls = [Event(tag=Tag.NULL)] * 600

@@ -241,10 +241,10 @@ class Values(unittest.TestCase):
         self.assertEqual(list(cqlp.rows(stream, cqlp.Limits(cell=32, parts=True), piece=5)), [(blob,)])
         raw = page([INT], [[cell(b"ab")], [NULL], [NOTHING]])
         self.assertEqual(list(cqlp.rows(raw, cqlp.Limits(types=False))), [(b"ab",), (None,), (b"",)])
-        untold = bytes.fromhex("8400000008000000190000000200000004000000020000000100000001" "07ffffffff")
-        (found,) = cqlp.Pages(untold)
+        undescribed = bytes.fromhex("8400000008000000190000000200000004000000020000000100000001" "07ffffffff")
+        (found,) = cqlp.Pages(undescribed)
         self.assertEqual((found.columns, found.width, found.count), ((), 2, 1))
-        self.assertEqual(list(cqlp.rows(untold)), [(b"\x07", None)])
+        self.assertEqual(list(cqlp.rows(undescribed)), [(b"\x07", None)])
 
 
 class Pages(unittest.TestCase):
@@ -288,30 +288,30 @@ class Pages(unittest.TestCase):
 
 class Sources(unittest.TestCase):
     def test_progress_over_a_file(self) -> None:
-        path, told = BINDINGS / "pages.bin", []
+        path, reports = BINDINGS / "pages.bin", []
         size = path.stat().st_size
-        count = len(list(cqlp.rows(path, piece=100, progress=lambda *numbers: told.append(numbers))))
+        count = len(list(cqlp.rows(path, piece=100, progress=lambda *numbers: reports.append(numbers))))
         self.assertEqual(count, 5)
-        self.assertEqual(told, [(min(read, size), size) for read in range(100, size + 100, 100)])
+        self.assertEqual(reports, [(min(read, size), size) for read in range(100, size + 100, 100)])
         with open(path, "rb") as file:
             self.assertEqual(len(list(cqlp.rows(file))), 5)
         self.assertEqual(len(list(cqlp.rows(str(path)))), 5)
 
     def test_a_pipe_has_no_total(self) -> None:
-        told = []
+        reports = []
         reader, writer = os.pipe()
         os.write(writer, (BINDINGS / "pages.bin").read_bytes())
         os.close(writer)
         with open(reader, "rb") as file:
-            self.assertEqual(len(list(cqlp.rows(file, progress=lambda *numbers: told.append(numbers)))), 5)
-        self.assertEqual(told, [(613, None)])
+            self.assertEqual(len(list(cqlp.rows(file, progress=lambda *numbers: reports.append(numbers)))), 5)
+        self.assertEqual(reports, [(613, None)])
 
     def test_other_files(self) -> None:
-        stream, told = (BINDINGS / "pages.bin").read_bytes(), []
-        self.assertEqual(len(list(cqlp.rows(io.BytesIO(stream), progress=lambda *numbers: told.append(numbers)))), 5)
+        stream, reports = (BINDINGS / "pages.bin").read_bytes(), []
+        self.assertEqual(len(list(cqlp.rows(io.BytesIO(stream), progress=lambda *numbers: reports.append(numbers)))), 5)
         packed = gzip.GzipFile(fileobj=io.BytesIO(gzip.compress(stream)))
-        self.assertEqual(len(list(cqlp.rows(packed, progress=lambda *numbers: told.append(numbers)))), 5)
-        self.assertEqual(told, [(613, 613), (613, None)])
+        self.assertEqual(len(list(cqlp.rows(packed, progress=lambda *numbers: reports.append(numbers)))), 5)
+        self.assertEqual(reports, [(613, 613), (613, None)])
 
     def test_a_read_that_fails(self) -> None:
         class Broken(io.RawIOBase):

@@ -103,7 +103,7 @@ class Talk:
         self.random = random.Random(seed)
         self.client, self.server = cqlp.Client(5), cqlp.Server(5)
         self.near, self.far = cqlp.Decoder(), cqlp.Decoder()
-        self.asked, self.told = bytearray(), bytearray()
+        self.asked, self.sent = bytearray(), bytearray()
         self.open: Dict[int, Opcode] = {}
         self.begun, self.dropped, self.pushed = 0, 0, 0
 
@@ -122,9 +122,9 @@ class Talk:
 
     def came(self, decoder: cqlp.Decoder, wire: bytearray) -> Iterator[cqlp.Event]:
         length = self.random.randint(0, len(wire))
-        for told in decoder.decode(bytes(wire[:length])):
-            if told.tag == cqlp.Tag.FRAME:
-                yield told
+        for event in decoder.decode(bytes(wire[:length])):
+            if event.tag == cqlp.Tag.FRAME:
+                yield event
         del wire[:length]
 
     def serve(self) -> None:
@@ -136,14 +136,14 @@ class Talk:
             request = self.open.pop(stream)
             opcode = self.random.choice(ANSWERS[request])
             assert self.server.answer(stream, opcode) == (request, ["accepted", request])
-            self.told += message(opcode, stream, True)
+            self.sent += message(opcode, stream, True)
 
     def push(self) -> None:
         self.pushed += 1
-        self.told += cqlp.event_header(len(BODIES[Opcode.EVENT])) + BODIES[Opcode.EVENT]
+        self.sent += cqlp.event_header(len(BODIES[Opcode.EVENT])) + BODIES[Opcode.EVENT]
 
     def hear(self) -> Iterator[Tuple[Any, Any]]:
-        for frame in self.came(self.near, self.told):
+        for frame in self.came(self.near, self.sent):
             reply = self.client.reply(frame)
             if reply.what == cqlp.ReplyKind.EVENT:
                 self.pushed -= 1
@@ -161,7 +161,7 @@ class Server(unittest.TestCase):
     def test_both_cores_talk(self) -> None:
         for seed in range(5):
             talk, replies, step = Talk(seed), 0, 0
-            while step < 500 or talk.asked or talk.told or talk.open:
+            while step < 500 or talk.asked or talk.sent or talk.open:
                 step += 1
                 if step < 500:
                     talk.begin()

@@ -18,10 +18,10 @@ PREPARED = bytes.fromhex("840000010800000026 00000004 000170 0000000000000000000
 BARE = bytes.fromhex("840000020800000018 00000002 00000004 00000001 00000001 0000000400000007")
 BAD_BARE = bytes.fromhex("840000020800000017 00000002 00000004 00000001 00000001 00000003000007")
 STREAM = OPTIONS + BAD_TEXT + QUERY + PAGE + NEXT
-TOLD = [(9, 2, 18, cqlp.Reason.BAD_UTF8), (45, 5, 89, cqlp.Reason.BAD_SIZE)]
+SKIPPED = [(9, 2, 18, cqlp.Reason.BAD_UTF8), (45, 5, 89, cqlp.Reason.BAD_SIZE)]
 
 
-def told(skipped: "List[cqlp.Skipped]") -> list:
+def members_of(skipped: "List[cqlp.Skipped]") -> list:
     return [(one.frame.at, one.frame.extra, one.at, one.reason) for one in skipped]
 
 
@@ -76,18 +76,18 @@ class Skips(unittest.TestCase):
             self.assertIsInstance(frames[0].message, Options)
             self.assertTrue(isinstance(frames[1].message, Query) and frames[1].message.query == "ab")
             self.assertTrue(isinstance(frames[2].message, Rows) and frames[2].message.rows == [(9,)])
-            self.assertEqual(told(skipped), TOLD)
+            self.assertEqual(members_of(skipped), SKIPPED)
 
     def test_rows_pages_and_columns(self) -> None:
         for piece in (1, 7, 50, 65536):
             skipped: "List[cqlp.Skipped]" = []
             self.assertEqual(list(cqlp.rows(io.BytesIO(STREAM), piece=piece, skip=skipped.append)), [(7,), (9,)])
-            self.assertEqual(told(skipped), TOLD)
+            self.assertEqual(members_of(skipped), SKIPPED)
             pages = [(page.count, list(page)) for page in cqlp.Pages(STREAM, piece=piece, skip=skipped.append)]
             self.assertEqual(pages, [(3, [(7,)]), (1, [(9,)])])
             columns = [list(page["a"].values) for page in cqlp.columns(STREAM, piece=piece, skip=skipped.append)]
             self.assertEqual(columns, [[9]])
-            self.assertEqual(told(skipped), TOLD * 3)
+            self.assertEqual(members_of(skipped), SKIPPED * 3)
             self.assertEqual(str(skipped[0]), "the frame at 9 is passed over: refused at 18: BadUtf8")
 
     def test_events_are_those_of_the_frames_alone(self) -> None:

@@ -22,7 +22,7 @@ def cells() -> Iterator[Tuple[str, List[str]]]:
 
 
 def names(cell: str) -> List[str]:
-    """The calls that a cell names, without what stands behind them."""
+    """The calls that a cell names, without what follows them."""
     return [re.split(r"[(=:.]", name, 1)[0].strip() for name in re.findall("`([^`]*)`", cell) if not name.startswith("event.") and "NewLenient.." != name]
 
 

@@ -9,7 +9,7 @@ PREPARED = bytes.fromhex(
     "84000001080000002d 00000004 000170 000000000000000000000000 0000000100000002 00016b 000174 0001610009 000162 0020 000d"
 )
 PAGE = bytes.fromhex("840000020800000025 00000002 00000004 00000002 00000001 0000000400000007 00000009000000010000000178")
-TOLD = bytes.fromhex("840000020800000023 00000002 00000001 00000001 00016b 000174 0001630009 00000001 0000000400000009")
+TYPED_PAGE = bytes.fromhex("840000020800000023 00000002 00000001 00000001 00016b 000174 0001630009 00000001 0000000400000009")
 WIDE = bytes.fromhex("84000002080000001c 00000002 00000004 00000003 00000001 ffffffffffffffff 00000000")
 TYPED, RAW = (7, ["x"]), (b"\0\0\0\7", b"\0\0\0\1\0\0\0\1x")
 
@@ -20,7 +20,7 @@ class Given(unittest.TestCase):
         with cqlp.Types(PREPARED) as types:
             self.assertEqual([(column.name, str(column.type)) for column in types.columns], [("a", "int"), ("b", "list<varchar>")])
             for piece in range(1, 60):
-                rows = list(cqlp.rows(PAGE + TOLD + PREPARED + PAGE + WIDE + PAGE, types=types, piece=piece))
+                rows = list(cqlp.rows(PAGE + TYPED_PAGE + PREPARED + PAGE + WIDE + PAGE, types=types, piece=piece))
                 self.assertEqual(rows, [TYPED, (9,), TYPED, (None, None, b""), TYPED])
             for page in cqlp.Pages(io.BytesIO(PAGE), types=types):
                 self.assertEqual(page.columns, types.columns)
