@@ -1,6 +1,6 @@
 package cqlp
 
-// What writes bodies. This is plain Go, and nothing of the proved library stands behind it but the header; the tests read all that it writes
+// What writes bodies. This is plain Go, and uses nothing of the proved library but the header; the tests read all that it writes
 // with the decoder. A text that is not UTF-8 is refused, and a text or a list that is longer than its length can say; nothing else is looked at.
 
 import (
@@ -20,8 +20,8 @@ var ErrNotText = errors.New("cqlp: a text that is not UTF-8, or not ASCII where 
 // ErrNotWritten says that there is no writer of such a message, type or value here.
 var ErrNotWritten = errors.New("cqlp: there is no writer of this")
 
-// AppendMessage appends a frame without flags under this stream id. The values of Rows are those that Bind takes; columns are told with their
-// tables, but where the flag 4 of the metadata is set: then Columns may have their types, and a reader has to know them. The error is
+// AppendMessage appends a frame without flags under this stream id. The values of Rows are those that Bind takes; columns are written with their
+// tables, except where the flag 4 of the metadata is set: then Columns may have their types, and a reader has to know them. The error is
 // ErrTooLong, ErrNotText, ErrNotWritten, or one that says what does not go together, and b is then as it was.
 func AppendMessage(b []byte, stream int16, m Message) ([]byte, error) {
 	return AppendFrame(b, &Frame{Stream: stream, Message: m})
@@ -434,8 +434,8 @@ func (w *writer) rows(m *Rows) {
 
 // metadata answers how many columns there are.
 func (w *writer) metadata(m *Metadata) int {
-	width, told := len(m.Columns), m.Flags&4 == 0
-	if !told {
+	width, described := len(m.Columns), m.Flags&4 == 0
+	if !described {
 		width = int(m.Width)
 	}
 	w.int(m.Flags&4 | int32(set(2, m.PagingState != nil)))
@@ -443,7 +443,7 @@ func (w *writer) metadata(m *Metadata) int {
 	if m.PagingState != nil {
 		w.bytes(m.PagingState)
 	}
-	if told {
+	if described {
 		w.columns(m.Columns)
 	}
 	return width

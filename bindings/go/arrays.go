@@ -18,7 +18,7 @@ func (e *CellTooLong) Error() string {
 	return fmt.Sprintf("cqlp: the value in row %d, column %d is longer than the arrays may hold", e.Row, e.Column)
 }
 
-// ErrUntold says that a table types a page of which nobody told the columns: set Types.Columns.
+// ErrUntold says that a table types a page whose columns nobody has described: set Types.Columns.
 var ErrUntold = errors.New("cqlp: the columns of the page are not told")
 
 // BatchLimits say how large the batches of a ColumnReader are, and what they hold.

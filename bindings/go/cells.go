@@ -16,7 +16,7 @@ type NamedValue struct {
 type cells struct {
 	parser *parser
 	width  int
-	// what is told of the columns, if anything is
+	// the columns, if they are described
 	columns []Column
 	events  []Event
 	// where the cells of the row begin among the events
@@ -26,7 +26,7 @@ type cells struct {
 	memory []byte
 }
 
-// begin makes ready for the rows of a page, which this table types where it tells no columns.
+// begin makes ready for the rows of a page, which this table types where the page describes no columns.
 func (c *cells) begin(page *Metadata, types *Types) {
 	c.width, c.columns = int(page.Width), page.Columns
 	if page.Flags&4 != 0 && types != nil && len(types.Columns) == c.width {
@@ -118,7 +118,7 @@ func (c *cells) keep() {
 	c.kept = len(c.events)
 }
 
-// cell has the events of a cell, and its type, or nil where no columns are told.
+// cell has the events of a cell, and its type, or nil where no columns are described.
 func (c *cells) cell(at int) cell {
 	end := len(c.events)
 	if at+1 < len(c.starts) {

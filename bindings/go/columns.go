@@ -9,8 +9,8 @@ import (
 	"unsafe"
 )
 
-// A ColumnReader gives the rows of the pages that an io.Reader reads in batches, column by column, in the layout of Apache Arrow. Of frames that
-// are no page it tells nothing. A page with a column of lists, sets, maps, tuples or UDTs ends it with CodeUnsupported, one with more columns than
+// A ColumnReader gives the rows of the pages that an io.Reader reads in batches, column by column, in the layout of Apache Arrow. It passes over
+// frames that are no page. A page with a column of lists, sets, maps, tuples or UDTs ends it with CodeUnsupported, one with more columns than
 // Limits.Entries with CodeTooManyColumns: read them by a RowReader. A part of a value, where Limits.Parts is set, is a *CellTooLong.
 //
 //	for columns.Next() {
@@ -30,10 +30,10 @@ type ColumnReader struct {
 	// what the arrays that are there were made for
 	kinds []byte
 	sizes C.cqlp_batch_limits
-	// whether a page is under way, and what is told of the last one
+	// whether a page is under way, the last page, and its columns as they are described
 	within bool
 	page   Page
-	told   []Column
+	known  []Column
 	// how many rows of the page came before the batch, and which they are
 	first int
 	// the arrays of the batch, and the memory that they lie in, of words so that numbers can be read there
@@ -89,7 +89,7 @@ func (r *ColumnReader) Columns() []ColumnArray { return r.arrays }
 func (r *ColumnReader) Rows() int  { return r.count }
 func (r *ColumnReader) First() int { return r.first }
 
-// Page tells of the page of the batch.
+// Page describes the page of the batch.
 func (r *ColumnReader) Page() Page { return r.page }
 
 // Err is what ended the batches, or nil where it is the end of the stream: a *Refusal, a *Cut, or the error of the io.Reader.
@@ -170,18 +170,18 @@ func (r *ColumnReader) kindsOf() ([]byte, error) {
 	for i := range kinds {
 		kinds[i] = byte(KindRaw)
 	}
-	r.told = page.Columns
+	r.known = page.Columns
 	if page.Flags&4 != 0 && r.typing != nil {
-		switch r.told = r.typing.Columns; {
-		case len(r.told) == 0:
+		switch r.known = r.typing.Columns; {
+		case len(r.known) == 0:
 			return nil, ErrUntold
-		case len(r.told) != len(kinds): // then the table does not type the page
-			r.told = nil
+		case len(r.known) != len(kinds): // then the table does not type the page
+			r.known = nil
 		}
 	}
 	if r.limits.Types {
-		for i := range r.told {
-			kinds[i] = byte(r.told[i].Type.Kind)
+		for i := range r.known {
+			kinds[i] = byte(r.known[i].Type.Kind)
 		}
 	}
 	return kinds, nil
@@ -270,8 +270,8 @@ func (r *ColumnReader) copyOut() {
 	for i := range r.kinds {
 		C.cqlp_columns_get(&box.columns, C.size_t(i), &box.column)
 		found := arrayOf(&box.column, r.count)
-		if i < len(r.told) {
-			found.Column = r.told[i]
+		if i < len(r.known) {
+			found.Column = r.known[i]
 		}
 		words += wordCount(found.Values) + len(found.Offsets) + wordCount(found.Valid) + wordCount(found.Empty)
 		r.arrays = append(r.arrays, found)

@@ -210,9 +210,9 @@ func TestColumnsOfAPage(t *testing.T) {
 		t.Fatal(r.Err())
 	}
 	a, b, c := r.Columns()[0], r.Columns()[1], r.Columns()[2]
-	told := fmt.Sprint(a.Int32s(), a.Offsets, a.Valid, a.Empty, string(b.Values), b.Offsets, b.Valid, b.Empty, c.Values, c.Valid, c.Empty, b.Int32s(), c.Column.Name)
-	if wanted := "[1 0 0] [] [1] [4]abc[0 3 3 3] [3] [2] [1] [5] [2] []c2"; told != wanted {
-		t.Error(told)
+	printed := fmt.Sprint(a.Int32s(), a.Offsets, a.Valid, a.Empty, string(b.Values), b.Offsets, b.Valid, b.Empty, c.Values, c.Valid, c.Empty, b.Int32s(), c.Column.Name)
+	if wanted := "[1 0 0] [] [1] [4]abc[0 3 3 3] [3] [2] [1] [5] [2] []c2"; printed != wanted {
+		t.Error(printed)
 	}
 	if r.Next() || r.Err() != nil || r.Rows() != 0 {
 		t.Error("there is more")
@@ -276,7 +276,7 @@ func TestColumnsThatSkip(t *testing.T) {
 	sameRows(t, "refused", stream, DefaultLimits(), BatchLimits{7, 1 << 20})
 }
 
-func TestColumnsThatAreNotTold(t *testing.T) {
+func TestColumnsThatAreNotDescribed(t *testing.T) {
 	whole := madePage(t, "rows", "20")
 	body := append([]byte{0, 0, 0, 2, 0, 0, 0, 4, 0, 0, 0, 4}, whole[len(whole)-20*45-4:]...)
 	bare := []byte{0x84, 0, 0, 0, 8, 0, 0, 0, 0}

@@ -248,7 +248,7 @@ type talk struct {
 	client      *Client
 	server      *Server
 	near, far   *Decoder
-	asked, told []byte
+	asked, sent []byte
 	open        []Event
 	begun, seen uint64
 }
@@ -267,7 +267,7 @@ func TestBothCoresTalk(t *testing.T) {
 	for seed := int64(0); seed < 3; seed++ {
 		talk := &talk{T: t, random: rand.New(rand.NewSource(seed)), client: client(t, 5), server: server(t, 5),
 			near: decoder(t, DefaultLimits()), far: decoder(t, DefaultLimits())}
-		for step := 0; step < 500 || len(talk.asked)+len(talk.told)+len(talk.open) > 0; step++ {
+		for step := 0; step < 500 || len(talk.asked)+len(talk.sent)+len(talk.open) > 0; step++ {
 			if step < 500 {
 				talk.ask()
 			}
@@ -333,13 +333,13 @@ func (t *talk) serve() {
 	if err != nil || answered != (Answered{frame.Opcode, uint64(frame.Opcode)}) {
 		t.Fatal(answered, err)
 	}
-	if t.told, err = AppendMessage(t.told, stream, m); err != nil {
+	if t.sent, err = AppendMessage(t.sent, stream, m); err != nil {
 		t.Fatal(err)
 	}
 }
 
 func (t *talk) hear() {
-	for _, frame := range t.came(t.near, &t.told) {
+	for _, frame := range t.came(t.near, &t.sent) {
 		reply, err := t.client.Reply(frame)
 		if err != nil || reply.What != ReplyAnswer || reply.Carried != 1000*reply.Ticket.Number {
 			t.Fatal(reply, err)

@@ -166,7 +166,7 @@ func (d *Decoder) ended(left int) error {
 	return nil
 }
 
-// full says whether the columns are to be taken: since no further row begins, or before a refusal is told.
+// full says whether the columns are to be taken: since no further row begins, or before a refusal is reported.
 func (d *Decoder) full() bool {
 	switch d.box.batch.stop {
 	case C.CQLP_STOP_FULL:
@@ -207,7 +207,7 @@ func (d *Decoder) Next(p []byte) (event Event, n int, err error) {
 	return event, n, nil
 }
 
-// take is one call of the library: how many bytes were used. It puts this many events at most; 0 of them stands for a call that fills the columns, and
+// take is one call of the library: how many bytes were used. It puts this many events at most; with 0 the call fills the columns, and
 // puts the event that they do not take.
 func (d *Decoder) take(p []byte, most int) int {
 	var first *C.uint8_t

@@ -4,9 +4,9 @@
 // io.Reader. Both hold no more than their Limits say, whatever lengths and counts a peer sends. A RowReader gives the rows of pages, and
 // Frames the frames, each message as a struct of its own. A Client pairs replies with requests, a Server knows which requests it has not
 // answered, AppendHeader writes headers, EncodeEvents and an Encoder write frames of their events, and a PageWriter a page of any size. All of
-// these stand on libcqlp, which is written in Rattle and proved: the events are those that the bytes used say, in order, and what is written is
-// read as the events given. Not proved is this package. What writes bodies and values, AppendMessage, AppendFrame and Bind, is plain Go: nothing
-// of the library stands behind it.
+// these use libcqlp, which is written in Rattle and proved: the events are those that the bytes used say, in order, and what is written is
+// read as the events given. Not proved is this package. What writes bodies and values, AppendMessage, AppendFrame and Bind, is plain Go, and
+// uses nothing of the library.
 //
 // No pointer to Go's memory stays with C after a call.
 package cqlp

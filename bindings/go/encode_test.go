@@ -12,16 +12,16 @@ import (
 	"testing"
 )
 
-// A toldFrame is a whole frame of a stream.
-type toldFrame struct {
+// A wholeFrame is a whole frame of a stream, with its events.
+type wholeFrame struct {
 	name   string
 	limits Limits
 	bytes  []byte
 	events []Event
 }
 
-// toldFrames are the whole frames of a stream.
-func toldFrames(t *testing.T, s stream) (found []toldFrame) {
+// wholeFrames are the whole frames of a stream.
+func wholeFrames(t *testing.T, s stream) (found []wholeFrame) {
 	t.Helper()
 	d, err := NewDecoder(s.limits)
 	if err != nil {
@@ -40,15 +40,15 @@ func toldFrames(t *testing.T, s stream) (found []toldFrame) {
 			events = nil
 		}
 		if events = append(events, event); event.Tag == TagEnd {
-			found = append(found, toldFrame{s.name, s.limits, s.bytes[events[0].At:event.At], events})
+			found = append(found, wholeFrame{s.name, s.limits, s.bytes[events[0].At:event.At], events})
 		}
 	}
 }
 
-func allToldFrames(t *testing.T) (found []toldFrame) {
+func allWholeFrames(t *testing.T) (found []wholeFrame) {
 	t.Helper()
 	for _, s := range streams(t) {
-		found = append(found, toldFrames(t, s)...)
+		found = append(found, wholeFrames(t, s)...)
 	}
 	return found
 }
@@ -64,7 +64,7 @@ func hasTag(events []Event, tag Tag) bool {
 }
 
 // refusal is why the frame is not written, or 0: a scalar of a cell comes in parts, or cells were read without their types.
-func refusal(frame toldFrame) Code {
+func refusal(frame wholeFrame) Code {
 	switch {
 	case hasTag(frame.events, TagPart):
 		return CodeUnbuilt
@@ -76,7 +76,7 @@ func refusal(frame toldFrame) Code {
 
 // spelled are the bytes of a frame without those after its last field, with a null of the length -1, and with 1 for true. There is no other way to
 // spell it.
-func spelled(frame toldFrame) []byte {
+func spelled(frame wholeFrame) []byte {
 	data, base := clone(frame.bytes), frame.events[0].At
 	for _, event := range frame.events {
 		if event.Tag == TagNull || event.Mark == MarkNull {
@@ -91,7 +91,7 @@ func spelled(frame toldFrame) []byte {
 	return data
 }
 
-// plain is what is told of a field, without what its tag has no use for, offsets, and lengths of frames.
+// plain is an event with the members that its tag uses, without offsets and lengths of frames.
 func plain(e Event) Event {
 	switch e.Tag {
 	case TagEnd:
@@ -118,7 +118,7 @@ func plain(e Event) Event {
 	return plainOfPage(e)
 }
 
-// plainOfPage is so for a type option, and what a cell has.
+// plainOfPage is the plain event of a type option or of a cell.
 func plainOfPage(e Event) Event {
 	found := Event{Tag: e.Tag, Row: e.Row, Column: e.Column, Level: e.Level}
 	switch e.Tag {
@@ -169,7 +169,7 @@ var readsAll = Limits{Text: 4096, Cell: 4096, Entries: 128, Depth: 64, Types: tr
 // mustRead compares what is read of a frame with the events that it was written of.
 func mustRead(t *testing.T, data []byte, events []Event) {
 	t.Helper()
-	read := toldFrames(t, stream{limits: readsAll, bytes: data})
+	read := wholeFrames(t, stream{limits: readsAll, bytes: data})
 	if events[len(events)-1].Tag != TagEnd {
 		events = append(events[:len(events):len(events)], Event{Tag: TagEnd})
 	}
@@ -185,7 +185,7 @@ func mustRead(t *testing.T, data []byte, events []Event) {
 
 func TestStreamsAreWrittenAsTheyCame(t *testing.T) {
 	written, others, left := 0, 0, 0
-	for _, frame := range allToldFrames(t) {
+	for _, frame := range allWholeFrames(t) {
 		data, err := EncodeEvents(frame.events)
 		if err != nil {
 			if !errors.Is(err, refusal(frame)) || data != nil {
@@ -218,7 +218,7 @@ func TestStreamsAreWrittenAsTheyCame(t *testing.T) {
 func TestAStreamIsEncodedEventByEvent(t *testing.T) {
 	for _, s := range streams(t) {
 		var target, wanted bytes.Buffer
-		for _, frame := range toldFrames(t, s) {
+		for _, frame := range wholeFrames(t, s) {
 			if refusal(frame) == 0 {
 				wanted.Write(spelled(frame))
 			}
@@ -298,7 +298,7 @@ func changed(r *rand.Rand, events []Event) []Event {
 
 // Each list is refused, or read back as it was given.
 func TestEventsChangedAtRandom(t *testing.T) {
-	times, frames := 100_000, allToldFrames(t)
+	times, frames := 100_000, allWholeFrames(t)
 	if testing.Short() {
 		times = 3_000
 	}

@@ -191,7 +191,7 @@ func mustWrite(t *testing.T, name string, stream []byte, frame *Frame, exactly b
 	if frame.Extra != 0 {
 		return false
 	}
-	// columns are always told with their tables
+	// columns are always written with their tables
 	switch m := frame.Message.(type) {
 	case *Prepared:
 		m.Flags, m.Result.Flags = m.Flags&^1, m.Result.Flags&^1
@@ -465,8 +465,8 @@ func TestFramesBehindBadOnes(t *testing.T) {
 		if err != nil {
 			t.Fatal(err)
 		}
-		var told []string
-		f.Skip = func(s Skipped) { told = append(told, s.String()) }
+		var reported []string
+		f.Skip = func(s Skipped) { reported = append(reported, s.String()) }
 		var places []uint64
 		for {
 			frame, err := f.Next()
@@ -480,8 +480,8 @@ func TestFramesBehindBadOnes(t *testing.T) {
 		}
 		f.Close()
 		wanted := "the frame at 9 is passed over: refused at 18: BadUtf8|the frame at 45 is passed over: refused at 89: BadSize"
-		if !reflect.DeepEqual(places, []uint64{0, 27, 104}) || strings.Join(told, "|") != wanted {
-			t.Fatal(size, places, told)
+		if !reflect.DeepEqual(places, []uint64{0, 27, 104}) || strings.Join(reported, "|") != wanted {
+			t.Fatal(size, places, reported)
 		}
 	}
 }

@@ -237,11 +237,11 @@ type Column struct {
 	Type                  Type
 }
 
-// Metadata is what is told of columns. Section 4.2.5.2.
+// Metadata describes the columns of a result. Section 4.2.5.2.
 type Metadata struct {
-	// Flags are 1 one table for all columns, 2 more pages, 4 no columns are told.
+	// Flags are 1 one table for all columns, 2 more pages, 4 no columns are described.
 	Flags int32
-	// Width is how many columns there are, also where none are told.
+	// Width is how many columns there are, also where none are described.
 	Width int32
 	// PagingState is where the result goes on, or nil where this is its last page.
 	PagingState []byte
@@ -263,13 +263,13 @@ type SetKeyspace struct{ Keyspace string }
 // Prepared says that a statement is prepared. Section 4.2.5.4.
 type Prepared struct {
 	ID []byte
-	// Flags is 1 where one table is told for all values that are to be bound.
+	// Flags is 1 where one table is written for all values that are to be bound.
 	Flags int32
 	// Keys say which of the values are the partition key, in the key's order.
 	Keys []uint16
 	// Bound are the values that are to be bound.
 	Bound []Column
-	// Result is what the statement's pages will tell of their columns.
+	// Result describes the columns of the statement's pages.
 	Result Metadata
 }
 
@@ -277,7 +277,7 @@ type Prepared struct {
 type SchemaChange struct {
 	// Change is CREATED, UPDATED or DROPPED; another text is kept.
 	Change string
-	// Target is KEYSPACE, TABLE, TYPE, FUNCTION or AGGREGATE; of another text nothing more is told.
+	// Target is KEYSPACE, TABLE, TYPE, FUNCTION or AGGREGATE; after another text no more is read.
 	Target string
 	// Name is that of what is no keyspace.
 	Keyspace, Name string

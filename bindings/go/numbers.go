@@ -477,7 +477,7 @@ const (
 	CodeBadSlots Code = 9
 	// CodeNoRequest: the opcode is no request's.
 	CodeNoRequest Code = 10
-	// CodeBadPhase: requests of this kind may not begin in the phase that stands.
+	// CodeBadPhase: requests of this kind may not begin in the current phase.
 	CodeBadPhase Code = 11
 	// CodeSpent: 2^64 - 1 requests have begun.
 	CodeSpent Code = 12

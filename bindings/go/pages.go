@@ -17,23 +17,23 @@ const (
 	pageRoom     = 1 << 14
 )
 
-// CellsSize is how many bytes of a page's cells these events tell of. Those of all events of its cells, added up, are the Size of a PageWriter; an
-// event of no cell tells of none. The error is an *EventError with CodeNoEvent, or CodeUnbuilt of a part of a scalar.
+// CellsSize is how many bytes of a page's cells these events take up. The sum over all events of its cells is the Size of a PageWriter; an event of
+// no cell takes up none. The error is an *EventError with CodeNoEvent, or CodeUnbuilt of a part of a scalar.
 func CellsSize(events ...Event) (uint64, error) {
-	var told Encoder
+	var given Encoder
 	var measured C.cqlp_measured
 	for before := 0; before < len(events); before += heldEvents {
 		some := events[before:]
 		if len(some) > heldEvents {
 			some = some[:heldEvents]
 		}
-		told.letGo(len(told.native), len(told.contents))
+		given.letGo(len(given.native), len(given.contents))
 		for i := range some {
-			told.add(&some[i])
+			given.add(&some[i])
 		}
-		err := done(C.cqlp_page_measure(told.events(), C.size_t(len(some)), firstOf(told.contents), C.size_t(len(told.contents)), &measured))
+		err := done(C.cqlp_page_measure(given.events(), C.size_t(len(some)), firstOf(given.contents), C.size_t(len(given.contents)), &measured))
 		if err != nil {
-			return 0, told.failed(err, int(measured.event), before)
+			return 0, given.failed(err, int(measured.event), before)
 		}
 	}
 	return uint64(measured.size), nil

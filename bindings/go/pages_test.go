@@ -23,13 +23,13 @@ func countOfRows(events []Event) int {
 }
 
 // allPages are the pages that can be written, of the streams and of pages.bin.
-func allPages(t *testing.T) (pages []toldFrame) {
+func allPages(t *testing.T) (pages []wholeFrame) {
 	t.Helper()
 	data, err := os.ReadFile("../pages.bin")
 	if err != nil {
 		t.Fatal(err)
 	}
-	frames := append(allToldFrames(t), toldFrames(t, stream{name: "pages.bin", limits: DefaultLimits(), bytes: data})...)
+	frames := append(allWholeFrames(t), wholeFrames(t, stream{name: "pages.bin", limits: DefaultLimits(), bytes: data})...)
 	for _, frame := range frames {
 		if countOfRows(frame.events) >= 0 && refusal(frame) == 0 {
 			pages = append(pages, frame)

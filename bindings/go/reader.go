@@ -11,7 +11,7 @@ const headerLength = 9
 
 // A Reader gives the events of what an io.Reader reads. It is not to be used by several goroutines at a time, but for Close.
 type Reader struct {
-	// Skip is told of each frame that is refused within its body, and the events go on with the next frame; where it is nil the Reader ends
+	// Skip is called with each frame that is refused within its body, and the events go on with the next frame; where it is nil the Reader ends
 	// there. Of such a frame there is no End.
 	Skip func(Skipped)
 	// Types says by which types a page without metadata is read, of the event of its header, as of its stream id. It is called for each RESULT,

@@ -7,8 +7,8 @@ import (
 	"reflect"
 )
 
-// A RowReader gives the rows of the pages that an io.Reader reads, one at a time. It holds one row, and what its Limits say. Of frames that are
-// no page it tells nothing.
+// A RowReader gives the rows of the pages that an io.Reader reads, one at a time. It holds one row, and what its Limits say. It passes over frames
+// that are no page.
 //
 //	for rows.Next() {
 //		if err := rows.Scan(&id, &name); err != nil {
@@ -23,14 +23,14 @@ type RowReader struct {
 
 	parser parser
 	cells  cells
-	// whether a page is under way, and what is told of the last one
+	// whether a page is under way, and the last page
 	within bool
 	page   Page
 	// the struct that Scan put a row into last
 	record record
 }
 
-// A Page is what is told of the page of a row.
+// A Page describes the page of a row.
 type Page struct {
 	// At is the offset of its frame, and Stream its stream id.
 	At     uint64
@@ -97,7 +97,7 @@ func (r *RowReader) enter() bool {
 }
 
 // NextPage passes over what is left of a page, and says whether there is another one. Its first row is the next that Next gives, so a
-// page without rows can be told too.
+// page without rows is seen too.
 func (r *RowReader) NextPage() bool {
 	if !r.enter() {
 		return false
@@ -151,10 +151,10 @@ func (r *RowReader) begin(head Event) bool {
 	return true
 }
 
-// Page tells of the page of the last row.
+// Page describes the page of the last row.
 func (r *RowReader) Page() Page { return r.page }
 
-// Columns are what is told of the columns of the page, by itself or by the table that types it; none where nothing is.
+// Columns are the columns of the page, as it describes them or as the table that types it does; none where neither does.
 func (r *RowReader) Columns() []Column { return r.cells.columns }
 
 // Scan puts the values of the row into what the pointers point to, one for each column. nil passes over a column. A value goes into
@@ -189,7 +189,7 @@ func (r *RowReader) Scan(to ...any) error {
 		return r.rowError(fmt.Errorf("Scan has %d pointers for %d columns", len(to), len(r.cells.starts)))
 	}
 	for i, to := range to {
-		// most cells are scalars, so this stands here
+		// most cells are scalars, so this is not in a function of its own
 		if e := &r.cells.events[r.cells.starts[i]]; e.Tag == TagLeaf {
 			if done, err := putLeaf(e, to); done && err == nil {
 				continue

@@ -471,7 +471,7 @@ func TestRowsOfRefusedPages(t *testing.T) {
 const (
 	preparedTypes = "84000001080000002d 00000004 000170 000000000000000000000000 0000000100000002 00016b 000174 0001610009 000162 0020 000d"
 	bare          = "840000020800000025 00000002 00000004 00000002 00000001 0000000400000007 00000009000000010000000178"
-	told          = "840000020800000023 00000002 00000001 00000001 00016b 000174 0001630009 00000001 0000000400000009"
+	typedPage     = "840000020800000023 00000002 00000001 00000001 00016b 000174 0001630009 00000001 0000000400000009"
 	wide          = "84000002080000001c 00000002 00000004 00000003 00000001 ffffffffffffffff 00000000"
 	badBare       = "84000002080000001b 00000002 00000004 00000002 00000001 00000003000007 00000000"
 )
@@ -502,7 +502,7 @@ func TestGivenTypes(t *testing.T) {
 	if rows := rowsOf(t, rowReader(t, bytes.NewReader(unhex(t, bare)))); !reflect.DeepEqual(rows, [][]any{raw}) {
 		t.Fatal(rows)
 	}
-	stream := unhex(t, bare+told+preparedTypes+bare+wide+bare)
+	stream := unhex(t, bare+typedPage+preparedTypes+bare+wide+bare)
 	wanted := [][]any{typed, {int64(9)}, typed, {nil, nil, []byte{}}, typed}
 	types := typesOf(t)
 	for size := 1; size < 60; size++ {

@@ -9,7 +9,7 @@ import "runtime"
 // used by several goroutines at a time.
 type Types struct {
 	native C.cqlp_types
-	// Columns are what is told of the columns, if the program knows: a RowReader has them for the pages that the table types, with the
+	// Columns are those of the page, if the program knows them: a RowReader has them for the pages that the table types, with the
 	// names of a UDT's fields. TypesOf leaves them empty; those of a Prepared are in its Result.
 	Columns []Column
 }

@@ -46,7 +46,7 @@ func (r *rows) add(e *cqlp.Event) {
 	}
 }
 
-// put adds the text of a value, or of its beginning, and what stands before it.
+// put adds the text of a value, or of its beginning, and what comes before it.
 func (r *rows) put(e *cqlp.Event, text string) {
 	last := len(r.kinds) - 1
 	switch {

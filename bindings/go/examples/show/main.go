@@ -24,7 +24,7 @@ func show(lines io.Writer, source io.Reader) (cqlp.Verdict, error) {
 		for piece := buffer[:count]; ; {
 			event, used, err := decoder.Next(piece)
 			if err != nil {
-				break // more bytes are wanted, or the stream is refused, of which the verdict tells
+				break // more bytes are wanted, or the stream is refused, as the verdict reports
 			}
 			piece = piece[used:]
 			fmt.Fprintln(lines, &event)

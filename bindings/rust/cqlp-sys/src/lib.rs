@@ -77,7 +77,7 @@ pub const CQLP_NO_COLUMN: u32 = 64;
 /// The caller was compiled for structs that lie otherwise than the library's.
 pub const CQLP_OTHER_LAYOUT: u32 = 65;
 
-/// The number of the layout of the structs below, which is told to the library.
+/// The number of the layout of the structs below, which is passed to the library.
 pub const CQLP_LAYOUT: u32 = 0xCF31_19DD;
 
 /// All of the input was used, and more is wanted.
@@ -521,7 +521,7 @@ pub struct cqlp_column {
 }
 
 impl cqlp_column {
-    /// A column that was not told.
+    /// A column that the library has not filled in.
     pub const BLANK: cqlp_column = cqlp_column {
         values: std::ptr::null(),
         offsets: std::ptr::null(),
@@ -651,7 +651,7 @@ extern "C" {
         batch: *mut cqlp_batch,
     ) -> u32;
 
-    /// Tells where the arrays of a column lie. They stay as they are until the next call on the handle but this one.
+    /// Puts into `view` where the arrays of a column lie. They stay as they are until the next call on the handle other than this one.
     pub fn cqlp_columns_get(columns: *mut cqlp_columns, column: usize, view: *mut cqlp_column) -> u32;
 
     /// Removes all rows, also one that is under way, and keeps the memory.
@@ -688,7 +688,7 @@ extern "C" {
     pub fn cqlp_page_free(page: *mut cqlp_page) -> u32;
 }
 
-/// Calls that tell the library how the structs of their caller lie, of which it answers [`CQLP_OTHER_LAYOUT`] where its own lie otherwise.
+/// Calls that pass the layout of the caller's structs to the library, which answers [`CQLP_OTHER_LAYOUT`] where its own structs lie otherwise.
 macro_rules! calls_by_layout {
     ($($(#[$doc:meta])* fn $name:ident = $by_layout:ident($($given:ident: $of:ty),*);)*) => {
         extern "C" {
@@ -743,7 +743,7 @@ calls_by_layout! {
         encoded: *mut cqlp_encoded
     );
 
-    /// Adds up how many bytes of a page these events of cells tell of.
+    /// Adds up how many bytes of a page these events of cells take up.
     fn cqlp_page_measure = cqlp_page_measure_by_layout(
         events: *const cqlp_event,
         count: usize,

@@ -4,8 +4,8 @@ use cqlp::{check, Decoder, Limits, Stop};
 use std::error::Error;
 use std::time::Instant;
 
-/// Says how long a reading took.
-fn tell(what: &str, bytes: usize, began: Instant) {
+/// Prints how long a reading took.
+fn print_time(what: &str, bytes: usize, began: Instant) {
     let seconds = began.elapsed().as_secs_f64();
     println!(
         "  {what}: {:.0} ms, {:.0} MB/s",
@@ -19,7 +19,7 @@ fn main() -> Result<(), Box<dyn Error>> {
 
     let began = Instant::now();
     let verdict = check(Limits::default(), &bytes)?;
-    tell(&format!("rust, check, {verdict}"), bytes.len(), began);
+    print_time(&format!("rust, check, {verdict}"), bytes.len(), began);
 
     let (mut decoder, mut events) = (Decoder::new(Limits::default())?, 0usize);
     let began = Instant::now();
@@ -29,7 +29,7 @@ fn main() -> Result<(), Box<dyn Error>> {
             events += usize::from(event.at < u64::MAX);
         }
     }
-    tell(&format!("rust, decode, {events} events"), bytes.len(), began);
+    print_time(&format!("rust, decode, {events} events"), bytes.len(), began);
 
     let (mut decoder, mut events) = (Decoder::new(Limits::default())?, 0usize);
     let began = Instant::now();
@@ -44,6 +44,6 @@ fn main() -> Result<(), Box<dyn Error>> {
             }
         }
     }
-    tell(&format!("rust, batch, {events} events"), bytes.len(), began);
+    print_time(&format!("rust, batch, {events} events"), bytes.len(), began);
     Ok(())
 }

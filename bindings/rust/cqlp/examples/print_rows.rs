@@ -38,7 +38,7 @@ impl Rows {
         self.line += text;
     }
 
-    /// What stands before a value.
+    /// What comes before a value.
     fn separate(&mut self, column: u32) {
         let Some((kind, items)) = self.around.last_mut() else {
             if column == 0 {

@@ -16,7 +16,7 @@ fn main() -> Result<(), Box<dyn Error>> {
             break;
         }
         let mut events = decoder.decode(&piece[..count]);
-        // of a refusal the verdict tells
+        // the verdict reports a refusal
         while let Ok(Some(event)) = events.next_event() {
             writeln!(lines, "{event}")?;
         }

@@ -176,9 +176,9 @@ unsafe fn lent<'a, T>(first: *const T, count: usize) -> &'a [T] {
 pub struct Columns {
     // The library's handle is not copied while it has columns, so it has a place of its own.
     handle: Box<UnsafeCell<sys::cqlp_columns>>,
-    // Where the arrays lie, one for each column, as they were told last; and whether they are told since the last call that may have changed them.
+    // Where the arrays of each column lie, as the library put it last; and whether no call since then may have changed that.
     views: UnsafeCell<Box<[Column]>>,
-    told: Cell<bool>,
+    are_current: Cell<bool>,
 }
 
 // SAFETY: include/cqlp.h lets a handle go to another thread between two calls. Nothing else has the pointers in `views`.
@@ -212,30 +212,30 @@ impl Columns {
         Ok(Columns {
             handle,
             views: UnsafeCell::new(views),
-            told: Cell::new(false),
+            are_current: Cell::new(false),
         })
     }
 
     /// The columns. Where a row is under way, the first of them have a cell more than [`Columns::rows`] says.
     pub fn columns(&self) -> &[Column] {
-        if !self.told.get() {
-            self.tell();
+        if !self.are_current.get() {
+            self.refresh();
         }
-        // SAFETY: `tell` alone writes there, and only while they are not told: what is lent of it is given back before a call that takes
-        // `&mut self`, which alone makes them so.
+        // SAFETY: `refresh` alone writes there, and only while the views are not current. Only a call that takes `&mut self` makes them outdated,
+        // and before it what is lent of them is given back.
         unsafe { &*self.views.get() }
     }
 
     /// Asks the library where the arrays lie.
-    fn tell(&self) {
-        // SAFETY: nothing of it is lent, since the arrays were not told after the last call that takes `&mut self`.
+    fn refresh(&self) {
+        // SAFETY: nothing of it is lent, since the views were not current after the last call that takes `&mut self`, and are lent only when they are.
         let views = unsafe { &mut *self.views.get() };
         for (at, view) in views.iter_mut().enumerate() {
             // SAFETY: both point to what their types say, and this call is on no other thread, since `Columns` is not `Sync`.
             let code = unsafe { sys::cqlp_columns_get(self.handle.get(), at, &mut view.0) };
             debug_assert_eq!(code, sys::CQLP_DONE);
         }
-        self.told.set(true);
+        self.are_current.set(true);
     }
 
     /// How many whole rows there are.
@@ -246,7 +246,7 @@ impl Columns {
     /// One call of the library, which puts the event that is not taken, if it stops there.
     fn fill(&mut self, decoder: &mut Decoder, input: &[u8], event: &mut sys::cqlp_event) -> sys::cqlp_batch {
         let mut batch = sys::cqlp_batch::default();
-        self.told.set(false);
+        self.are_current.set(false);
         // SAFETY: each points to as much as its type and the number after it say, none is null, and none overlap. Both handles are made, and what was
         // lent of the columns is given back.
         let code = unsafe {
@@ -265,7 +265,7 @@ impl Columns {
 
     /// Removes all rows, also one that is under way, and keeps the memory.
     pub fn clear(&mut self) {
-        self.told.set(false);
+        self.are_current.set(false);
         // SAFETY: it points to a handle, and what was lent of the columns is given back.
         let code = unsafe { sys::cqlp_columns_clear(self.handle.get()) };
         debug_assert_eq!(code, sys::CQLP_DONE);

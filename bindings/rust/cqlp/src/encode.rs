@@ -448,7 +448,7 @@ mod tests {
 
     /// What C has of an event is that event, and one that the library knows.
     #[test]
-    fn told_back() {
+    fn read_back() {
         let leaves = scalars().map(|scalar| What::Leaf(PLACE, scalar));
         for what in fields().into_iter().chain(leaves) {
             let content = content_of(&what);
@@ -473,7 +473,7 @@ mod tests {
 
     /// What has no name here is no event, and a part is not written.
     #[test]
-    fn not_told_back() {
+    fn not_read_back() {
         let part = |last| What::Part {
             place: PLACE,
             offset: 4,

@@ -2,7 +2,7 @@
 //!
 //! A [`Decoder`] takes the bytes of a connection, or of a file of frames, in pieces of any size. Its events borrow from it and from
 //! the piece, so the next call waits until they are let go. It holds no more than its [`Limits`] say, whatever lengths and counts a
-//! peer sends. It stands on libcqlp, which is written in Rattle and proved: the events are those that the bytes used say, in order.
+//! peer sends. It uses libcqlp, which is written in Rattle and proved: the events are those that the bytes used say, in order.
 //! [`encode`] and [`Composer`] write the frame that has given events, or name the one that is refused. A [`PageWriter`] does so for a page of any
 //! size, of which it holds the head and some cells.
 //! The module [`columns`] reads pages column by column, in the layout of Apache Arrow.

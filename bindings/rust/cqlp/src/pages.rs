@@ -15,24 +15,24 @@ const CONTENTS: usize = 1 << 14;
 /// How many bytes one call of the library puts, where no cell wants more.
 const ROOM: usize = 1 << 14;
 
-/// How many bytes of a page's cells these events tell of: those of all events of its cells, added up, are the [`size`](PageWriter::size) of the
-/// page. An event of no cell tells of none.
+/// How many bytes of a page's cells these events take up: the sum over all events of its cells is the [`size`](PageWriter::size) of the page. An
+/// event of no cell takes up none.
 ///
 /// # Errors
 ///
 /// [`Code::NoEvent`], or [`Code::Unbuilt`] of a part of a scalar, with the index of the event.
 pub fn cells_size(events: &[Event<'_>]) -> Result<u64, EncodeError> {
-    let mut told = Composer::new();
+    let mut given = Composer::new();
     let mut measured = sys::cqlp_measured::default();
     for (before, some) in (0..).step_by(EVENTS).zip(events.chunks(EVENTS)) {
-        some.iter().for_each(|event| told.take(event));
+        some.iter().for_each(|event| given.take(event));
         // SAFETY: each points to as much as its type and the number after it say, none is null, and none overlap.
         let code = unsafe {
             sys::cqlp_page_measure(
-                told.events.as_ptr(),
-                told.events.len(),
-                told.contents.as_ptr(),
-                told.contents.len(),
+                given.events.as_ptr(),
+                given.events.len(),
+                given.contents.as_ptr(),
+                given.contents.len(),
                 &mut measured,
             )
         };
@@ -42,7 +42,7 @@ pub fn cells_size(events: &[Event<'_>]) -> Result<u64, EncodeError> {
                 code: Code::of(code),
             });
         }
-        told.let_go(told.events.len(), told.contents.len());
+        given.let_go(given.events.len(), given.contents.len());
     }
     Ok(measured.size)
 }

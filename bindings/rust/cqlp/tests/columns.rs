@@ -228,7 +228,7 @@ impl Sink for Words {
 }
 
 /// All events of a stream in words, and of each column the kind of its first scalar, or raw where it has none.
-fn told(case: &Case) -> (Vec<String>, Vec<Kind>) {
+fn events_in_words(case: &Case) -> (Vec<String>, Vec<Kind>) {
     let (mut words, mut kinds) = (Vec::new(), Vec::new());
     let mut decoder = Decoder::new(case.limits).unwrap();
     let mut events = decoder.decode(&case.bytes);
@@ -333,7 +333,7 @@ fn scalar_of<'a>(column: &Column, at: usize, bytes: &'a [u8]) -> Scalar<'a> {
     }
 }
 
-/// A stream read into columns, with what is told of it in words, that of the columns and of the sink beside them in the order in which it comes.
+/// A stream read into columns, with its events in words: those of the columns, and those of the sink beside them, in the order in which they come.
 struct Reading {
     decoder: Decoder,
     page: PageColumns<Words>,
@@ -393,7 +393,7 @@ impl Reading {
 fn all_streams_in_every_cut() {
     let mut cells = 0;
     for case in streams() {
-        let (words, kinds) = told(&case);
+        let (words, kinds) = events_in_words(&case);
         let read = |pieces: &[&[u8]]| {
             let mut reading = Reading::new(&case, &kinds);
             pieces.iter().for_each(|piece| reading.give(piece));

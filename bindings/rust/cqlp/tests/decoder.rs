@@ -260,9 +260,9 @@ fn names_are_those_of_the_header() {
         ("KIND", 26, |number| Kind::of(number).to_string()),
         ("REASON", 20, |number| Reason::of(number).to_string()),
     ] {
-        let told = numbers(&header, group);
-        assert_eq!(told.len(), count, "{group}");
-        for (name, number) in told {
+        let defined = numbers(&header, group);
+        assert_eq!(defined.len(), count, "{group}");
+        for (name, number) in defined {
             assert_eq!(name_of(number).to_lowercase(), name, "{group}");
         }
     }

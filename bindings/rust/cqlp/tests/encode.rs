@@ -63,12 +63,12 @@ fn a_composer_goes_on() {
     }
 }
 
-/// What is told of a field, without the length of a frame and the bytes after the last field.
+/// An event without the length of a frame and the bytes after the last field.
 fn plain(event: &Event<'_>) -> String {
     match event.what {
         What::Frame(frame) => format!("{:?}", Frame { length: 0, ..frame }),
         What::End(_) => "End".to_string(),
-        // the line has each byte of a binary number, and what stands before it the kind
+        // the line has each byte of a binary number, and the text before it has the kind
         what => format!("{what:?} {}", Event { at: 0, what }),
     }
 }

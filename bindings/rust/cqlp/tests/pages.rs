@@ -3,7 +3,7 @@
 mod common;
 
 use common::bindings;
-use common::frames::{frames, frames_of, refusal, Told};
+use common::frames::{frames, frames_of, refusal, WholeFrame};
 use cqlp::{
     cells_size, encode, Code, EncodeError, Event, Field, Frame, Kind, Limits, Opcode, PageError, PageWriter, Place,
     Scalar, What,
@@ -17,7 +17,7 @@ fn rows_of(events: &[Event<'_>]) -> Option<usize> {
 }
 
 /// All pages that can be written, of the streams and of pages.bin.
-fn pages() -> Vec<Told> {
+fn pages() -> Vec<WholeFrame> {
     let mut all = frames();
     let bytes = std::fs::read(bindings().join("pages.bin")).unwrap();
     all.extend(frames_of("pages.bin", Limits::default(), bytes));

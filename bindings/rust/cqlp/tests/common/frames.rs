@@ -3,8 +3,8 @@
 use super::streams::streams;
 use cqlp::{Bound, Code, Decoder, Event, Limits, Scalar, Stop, What};
 
-/// A whole frame of a stream, whose bytes stay until the tests end.
-pub struct Told {
+/// A whole frame of a stream, with its events. Its bytes stay until the tests end.
+pub struct WholeFrame {
     pub name: String,
     pub limits: Limits,
     pub bytes: &'static [u8],
@@ -12,7 +12,7 @@ pub struct Told {
 }
 
 /// The whole frames of all streams.
-pub fn frames() -> Vec<Told> {
+pub fn frames() -> Vec<WholeFrame> {
     let streams = streams().into_iter();
     streams
         .flat_map(|stream| frames_of(&stream.name, stream.limits, stream.bytes))
@@ -20,7 +20,7 @@ pub fn frames() -> Vec<Told> {
 }
 
 /// The whole frames of one stream.
-pub fn frames_of(name: &str, limits: Limits, bytes: Vec<u8>) -> Vec<Told> {
+pub fn frames_of(name: &str, limits: Limits, bytes: Vec<u8>) -> Vec<WholeFrame> {
     let bytes: &'static [u8] = bytes.leak();
     let decoder = Box::leak(Box::new(Decoder::new(limits).unwrap()));
     let batch = decoder.batch(bytes);
@@ -28,17 +28,17 @@ pub fn frames_of(name: &str, limits: Limits, bytes: Vec<u8>) -> Vec<Told> {
     let events: Vec<Event> = batch.collect();
     let parts = events.split_inclusive(|event| matches!(event.what, What::End(_)));
     let whole = parts.filter(|part| matches!(part.last().unwrap().what, What::End(_)));
-    let told = |part: &[Event<'static>]| Told {
+    let whole_frame = |part: &[Event<'static>]| WholeFrame {
         name: name.to_string(),
         limits,
         bytes: &bytes[part[0].at as usize..part.last().unwrap().at as usize],
         events: part.to_vec(),
     };
-    whole.map(told).collect()
+    whole.map(whole_frame).collect()
 }
 
 /// Why a frame is not written, if it is not: a scalar of a cell comes in parts, or cells were read without their types.
-pub fn refusal(frame: &Told) -> Option<Code> {
+pub fn refusal(frame: &WholeFrame) -> Option<Code> {
     let has = |test: fn(&What) -> bool| frame.events.iter().any(|event| test(&event.what));
     if has(|what| matches!(what, What::Part { .. })) {
         Some(Code::Unbuilt)
@@ -50,7 +50,7 @@ pub fn refusal(frame: &Told) -> Option<Code> {
 }
 
 /// The bytes of a frame without those after its last field, with a null of the length -1, and with 1 for true. There is no other way to spell it.
-pub fn spelled(frame: &Told) -> Vec<u8> {
+pub fn spelled(frame: &WholeFrame) -> Vec<u8> {
     let mut bytes = frame.bytes.to_vec();
     for event in &frame.events {
         let at = (event.at - frame.events[0].at) as usize;
