@@ -1,7 +1,7 @@
 #!/usr/bin/env python3
 """Times the Python package over a page of bench/pages.py, for bench/bindings.sh: bindings.py FILE
 
-Beside it stands a plain loop in Python that walks the cells of the page by their lengths and decides nothing of them, and the reader in C of the
+Beside it run a plain loop in Python, which walks the cells of the page by their lengths and decides nothing of them, and the reader in C of the
 released driver, where it is there. Times are those of the processor, the least of nine runs.
 """
 import gc

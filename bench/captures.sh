@@ -19,7 +19,7 @@ export CARGO_TARGET_DIR=$here/../dist/out/rust
 program=${CQLP:-$CARGO_TARGET_DIR/dist/cqlp}
 
 # The least processor time of so many runs of a command on a capture, which is left in the file best, and its resident memory. It runs in a new folder, flows.
-tell() {
+measure() {
     local runs=$1 name=$2
     shift 2
     rm -f "$room/spent"
@@ -40,15 +40,15 @@ tell() {
 beside() {
     local own=$1
     if command -v tcpflow >/dev/null; then
-        tell 1 tcpflow tcpflow -q -r "$room/capture" -o "$room/flows"
+        measure 1 tcpflow tcpflow -q -r "$room/capture" -o "$room/flows"
     fi
     if command -v tcptrace >/dev/null; then
-        tell 1 'tcptrace -n' tcptrace -n "$room/capture"
-        tell 1 'tcptrace -e' tcptrace -n -e "$room/capture"
+        measure 1 'tcptrace -n' tcptrace -n "$room/capture"
+        measure 1 'tcptrace -e' tcptrace -n -e "$room/capture"
     fi
     if command -v tshark >/dev/null; then
-        tell 1 'tshark -z conv,tcp' tshark -q -n -r "$room/capture" -z conv,tcp
-        tell 1 'tshark -Y cql' tshark -n -r "$room/capture" -Y cql
+        measure 1 'tshark -z conv,tcp' tshark -q -n -r "$room/capture" -z conv,tcp
+        measure 1 'tshark -Y cql' tshark -n -r "$room/capture" -Y cql
         awk -v own="$own" 'own > 0 { printf "  that is %.1f times as long as the lines\n", $1 / own }' "$room/best"
     fi
 }
@@ -57,12 +57,12 @@ for kind in "${kinds[@]}"; do
     python3 "$here/captures.py" "$kind" "$room/capture" "$size"
     echo "$kind: $(stat -c %s "$room/capture") bytes"
     own=0
-    tell 3 'the example' "$CARGO_TARGET_DIR/dist/examples/streams" "$room/capture"
+    measure 3 'the example' "$CARGO_TARGET_DIR/dist/examples/streams" "$room/capture"
     if [ -x "$program" ]; then
         # Of 1,000 connections at a time the program writes two files for nearly each segment.
-        [[ $kind =~ ^(thousand|many)$ ]] || tell 3 --streams "$program" capture --streams "$room/flows" "$room/capture"
-        tell 3 --summary "$program" capture --summary "$room/capture"
-        tell 3 lines "$program" capture "$room/capture"
+        [[ $kind =~ ^(thousand|many)$ ]] || measure 3 --streams "$program" capture --streams "$room/flows" "$room/capture"
+        measure 3 --summary "$program" capture --summary "$room/capture"
+        measure 3 lines "$program" capture "$room/capture"
         own=$(<"$room/best")
         "$program" capture "$room/capture" 2>&1 >/dev/null | tail -n 1
     fi

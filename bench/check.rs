@@ -2,7 +2,7 @@
 //!
 //! It reads the file in pieces of 4,096 bytes and holds the bytes of the present scalar alone. It sees that each cell is within the page and has a
 //! length and a content of its type, and prints how many cells, scalars, nulls and empty values there were, and a sum over the scalars. Nothing is
-//! bounded, placed or told apart where it refuses. With `events` it also puts an event of 72 bytes, as include/cqlp.h has it, for each value into an
+//! bounded or placed, and all refusals are the same. With `events` it also puts an event of 72 bytes, as include/cqlp.h has it, for each value into an
 //! array of 256, and adds up the lengths of their contents where the array is full or the bytes move, as bindings/c/speed.c does. std alone:
 //! `rustc --edition 2021 -O -C codegen-units=1 -o check check.rs`.
 use std::fs::File;
@@ -113,9 +113,9 @@ impl Batch {
     }
 }
 
-/// Puts what is told of a scalar with this content, which is one of its type.
+/// Puts a scalar with this content, which is one of its type, into an event.
 #[inline(always)]
-fn tell(event: &mut Event, id: u16, content: &[u8]) {
+fn put_scalar(event: &mut Event, id: u16, content: &[u8]) {
     match id {
         0x02 | 0x05 | 0x0B | 0x12 => event.number = i64::from_be_bytes(content.try_into().unwrap()),
         0x09 => event.number = i64::from(i32::from_be_bytes(content.try_into().unwrap())),
@@ -345,7 +345,7 @@ impl<const EVENTS: bool> Pieces<EVENTS> {
                 let content = &self.bytes[self.start - size as usize..self.start];
                 count.sum = count.sum.wrapping_add(scalar(*id, content)?);
                 if EVENTS {
-                    tell(self.batch.put(at, place, TAG_LEAF, *id as u8), *id, content);
+                    put_scalar(self.batch.put(at, place, TAG_LEAF, *id as u8), *id, content);
                 }
                 Ok(())
             }

@@ -2,7 +2,7 @@
 # Times the encoder on the pages that pages.py makes, as values in memory. The program in pages/, which cargo compiles over dist/rust, writes
 # each page once and 21 times into a Vec, whole, cell by cell or by `append`, and so does encode.rs, an encoder written by hand, with and without a
 # check of what it writes. A twentieth of the difference, in time of the processor, is the time of one writing: of the best of five of each,
-# and told with its MB/s.
+# and printed with its MB/s.
 set -euo pipefail
 
 here=$(dirname -- "$(readlink -f -- "${BASH_SOURCE[0]}")")
@@ -31,7 +31,7 @@ once() {
     echo $((least_many > least_one ? (least_many - least_one) * 50 : 1))
 }
 
-tell() {
+print_time() {
     echo "  $1: $2 us, $((bytes / $2)) MB/s"
 }
 
@@ -39,9 +39,9 @@ for page in 'rows 1000000' 'collections 200000' 'columns 5000' 'blobs 96'; do
     by_hand=$(once "$room/by_hand" "$page")
     bytes=$(sed 's/.*: \([0-9]*\) bytes.*/\1/' "$room/printed")
     echo "$page, $bytes bytes"
-    tell 'by hand' "$by_hand"
-    tell 'by hand, checked' "$(once "$room/by_hand" "$page" checked)"
-    tell encode "$(once "$program" "$page")"
-    tell 'cell by cell' "$(once "$program" "$page" cells)"
-    tell append "$(once "$program" "$page" append)"
+    print_time 'by hand' "$by_hand"
+    print_time 'by hand, checked' "$(once "$room/by_hand" "$page" checked)"
+    print_time encode "$(once "$program" "$page")"
+    print_time 'cell by cell' "$(once "$program" "$page" cells)"
+    print_time append "$(once "$program" "$page" append)"
 done

@@ -22,8 +22,8 @@ for _ in 1 2 3; do
 done
 
 if command -v valgrind >/dev/null; then
-    valgrind --tool=callgrind --callgrind-out-file="$room/calls" "$program" <"$room/fewer" >/dev/null 2>"$room/told"
-    count=$(sed -n 's/.*Collected : //p' "$room/told")
+    valgrind --tool=callgrind --callgrind-out-file="$room/calls" "$program" <"$room/fewer" >/dev/null 2>"$room/log"
+    count=$(sed -n 's/.*Collected : //p' "$room/log")
     lines=$("$program" <"$room/fewer" 2>/dev/null | wc -l)
     checked=$(valgrind --tool=callgrind --callgrind-out-file=/dev/null "$program" check "$room/fewer" 2>&1 >/dev/null | sed -n 's/.*Collected : //p')
     echo "$((checked / lines)) instructions an event of check; $((count / $(stat -c %s "$room/fewer"))) a byte of show, by function:"

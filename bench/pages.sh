@@ -12,7 +12,7 @@ trap 'rm -rf "$room"' EXIT
 cargo build --release --offline --quiet --manifest-path "$here/pages/Cargo.toml" --target-dir "$here/out"
 
 # Times the program on a page; the words after it are the program's.
-tell() {
+measure() {
     local page=$1
     shift
     echo "$(stat -c %s "$page") bytes, $("$program" count "$@" <"$page")"
@@ -33,8 +33,8 @@ count() {
     shift
     if command -v valgrind >/dev/null; then
         events=$("$program" count "$@" <"$page" | cut -d' ' -f1)
-        valgrind --tool=callgrind --callgrind-out-file="$room/calls" "$program" count "$@" <"$page" >/dev/null 2>"$room/told"
-        echo "  $(($(sed -n 's/.*Collected : //p' "$room/told") / events)) instructions an event; by function:"
+        valgrind --tool=callgrind --callgrind-out-file="$room/calls" "$program" count "$@" <"$page" >/dev/null 2>"$room/log"
+        echo "  $(($(sed -n 's/.*Collected : //p' "$room/log") / events)) instructions an event; by function:"
         callgrind_annotate "$room/calls" | grep -E '^ *[0-9,]+ \(' | sed -n '2,6s/ \[.*//; 2,6s/???://; 2,6p'
     fi
 }
@@ -45,10 +45,10 @@ for ((k = 0; k < ${#fewer[@]}; k += 2)); do
     types=$(python3 "$here/pages.py" "$page" types)
     python3 "$here/pages.py" "$page" >"$room/page"
     python3 "$here/pages.py" "$page" "${fewer[k + 1]}" >"$room/fewer"
-    echo "$page: $(tell "$room/page")"
+    echo "$page: $(measure "$room/page")"
     count "$room/fewer"
     python3 "$here/pages.py" "$page" bare >"$room/page"
     python3 "$here/pages.py" "$page" bare "${fewer[k + 1]}" >"$room/fewer"
-    echo "$page, types given: $(tell "$room/page" "$types")"
+    echo "$page, types given: $(measure "$room/page" "$types")"
     count "$room/fewer" "$types"
 done

@@ -3,7 +3,7 @@
 
 The programs of each line run in turn, ROUNDS times (15); a time is that of the processor, the least of them, and a ratio is the time of
 what is by hand to that of ours, so that over 1 is faster than by hand. Batches are also beside a reader by hand that puts the same events, and
-beside `cqlp check`. The program is what cargo compiles over dist/rust, or $CQLP; `-` stands for what is not on this machine (a C compiler, or
+beside `cqlp check`. The program is what cargo compiles over dist/rust, or $CQLP; `-` marks what is not on this machine (a C compiler, or
 bindings/out/libcqlp.a).
 """
 import os
@@ -41,19 +41,19 @@ def least(rounds, tasks):
     return [tasks[at] and max(min(run[at] for run in runs), 1e-3) for at in range(len(tasks))]
 
 
-def told_times(times):
+def shown_times(times):
     return ['-' if it is None else f'{it:.1f} ms' for it in times]
 
 
-def tell_times(name, times):
-    print(f'| {name} | {" | ".join(told_times(times))} |', flush=True)
+def print_times(name, times):
+    print(f'| {name} | {" | ".join(shown_times(times))} |', flush=True)
 
 
-def tell(name, times, base=0):
-    """Writes a line: the times, and the ratio of the one named `base` to each other."""
-    told = told_times(times)
+def print_row(name, times, base=0):
+    """Prints a row of a table: the times, and the ratio of the one named `base` to each other."""
+    shown = shown_times(times)
     ratios = ['-' if it is None or times[base] is None else f'{times[base] / it:.2f}' for at, it in enumerate(times) if at != base]
-    print(f'| {name} | {" | ".join(told)} | {" | ".join(ratios)} |', flush=True)
+    print(f'| {name} | {" | ".join(shown)} | {" | ".join(ratios)} |', flush=True)
 
 
 def table(*heads):
@@ -113,11 +113,11 @@ def read_tables(programs, pages, rounds):
     table('`check`', 'by hand', '`cqlp check`', 'ratio')
     for name in ('rows', 'collections', 'columns', 'blobs'):
         times = least(rounds, [lambda: spent([programs.check, pages[name]]), lambda: spent([programs.cqlp, 'check', pages[name]])])
-        tell(name, times)
+        print_row(name, times)
     batches_table(programs, pages, rounds)
     table('events written alone', '`cqlp check`', 'events of 72 bytes, decoding nothing')
     for name, many in EVENTS.items():
-        tell_times(name, least(rounds, [lambda: spent([programs.cqlp, 'check', '-'], pages[name]), programs.events and (lambda: spent([programs.events, str(many), '256']))]))
+        print_times(name, least(rounds, [lambda: spent([programs.cqlp, 'check', '-'], pages[name]), programs.events and (lambda: spent([programs.events, str(many), '256']))]))
 
 
 def batches_table(programs, pages, rounds):
@@ -129,7 +129,7 @@ def batches_table(programs, pages, rounds):
         hand = [lambda more=more: spent([programs.check, page, *more]) for more in ((), ('events',))]
         times = least(rounds, [*hand, lambda: spent([programs.cqlp, 'check', '-'], page), *batch])
         ratios = ['-' if times[at] is None else f'{times[base] / times[at]:.2f}' for base, at in ((0, 3), (1, 3), (2, 3), (2, 4))]
-        print(f'| {name} | {" | ".join(told_times(times))} | {" | ".join(ratios)} |', flush=True)
+        print(f'| {name} | {" | ".join(shown_times(times))} | {" | ".join(ratios)} |', flush=True)
 
 
 def text_table(programs, pages, rounds):
@@ -137,7 +137,7 @@ def text_table(programs, pages, rounds):
     for command in ('show', 'rows'):
         for name in ('rows', 'collections', 'columns', 'kinds'):
             times = least(rounds, [lambda it=it: spent([it, command, pages[name]]) for it in (programs.text, programs.cqlp)])
-            tell(f'`{command}` {name}', times)
+            print_row(f'`{command}` {name}', times)
 
 
 def writings(program, programs, page, how):
@@ -152,7 +152,7 @@ def encode_table(programs, rounds):
         runs = least(rounds, [task for program, how in programs.ways.values() for task in writings(program, programs, page, how)])
         times = dict(zip(programs.ways, ((many - one) / WRITES for one, many in zip(runs[::2], runs[1::2]))))
         ratios = (f'{times[one] / times[other]:.2f}' for one, other in RATIOS_OF_WRITING)
-        print(f'| {page} | {" | ".join(told_times(times.values()))} | {" | ".join(ratios)} |', flush=True)
+        print(f'| {page} | {" | ".join(shown_times(times.values()))} | {" | ".join(ratios)} |', flush=True)
 
 
 def rows_table(programs, pages, rounds):

@@ -1,6 +1,6 @@
 #!/usr/bin/env bash
 # Times `cqlp show` and `cqlp rows` on the pages that pages.py makes, beside a writer of the same text in Rust that is written by hand
-# (show.rs), and sees that both write the same bytes. It tells the best of five runs of each, the processor's time, in MB of text a
+# (show.rs), and sees that both write the same bytes. It prints the best of five runs of each, the processor's time, in MB of text a
 # second, and their ratio; where valgrind is there, also the instructions for each byte of the text of a smaller page.
 set -euo pipefail
 

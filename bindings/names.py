@@ -3,7 +3,7 @@
 
 Each line is a group of numbers as include/cqlp.h has it, a number, and its word. Numbers and words are those of the sources of the
 crates: cqlp_c/src/numbers.rt says which number a variant has for C, cqlp_text/src/names.rt which word it has in lines, and cqlp_grammar
-has the codes of errors and the kinds of results. Names that only the standard has stand in docs/PROTOCOL.md. The words in
+has the codes of errors and the kinds of results. Names that only the standard has are in docs/PROTOCOL.md. The words in
 include/cqlp.h have to spell the same names; where they do not, this says so and writes nothing.
 """
 import pathlib
@@ -108,16 +108,16 @@ def all_names():
 def check_header(names):
     """The header has each number under its name, and no other in these groups."""
     header = read("include/cqlp.h")
-    told = {word: int(number, 0) for word, number in re.findall(r"^#define CQLP_(\w+) (0x[0-9A-F]+|\d+)\b", header, re.M)}
-    places = {word[len("GROUP_") :]: number for word, number in told.items() if word.startswith("GROUP_")}
+    defined = {word: int(number, 0) for word, number in re.findall(r"^#define CQLP_(\w+) (0x[0-9A-F]+|\d+)\b", header, re.M)}
+    places = {word[len("GROUP_") :]: number for word, number in defined.items() if word.startswith("GROUP_")}
     assert places == {group: number for number, group in enumerate(names, 1)}, "include/cqlp.h has other groups"
     for group, words in names.items():
         begin = "" if group == "CODE" else "BAD_" if group == "LIMIT" else group + "_"
         for number, word in words.items():
             plain = re.sub(r"\W|_", "", word).upper()
-            spelled = [name for name, value in told.items() if name.startswith(begin) and name[len(begin) :].replace("_", "") == plain]
-            assert [told[name] for name in spelled] == [number], "include/cqlp.h has not %s %d as %s" % (group, number, word)
-        count = sum(name.startswith(begin) for name in told)
+            spelled = [name for name, value in defined.items() if name.startswith(begin) and name[len(begin) :].replace("_", "") == plain]
+            assert [defined[name] for name in spelled] == [number], "include/cqlp.h has not %s %d as %s" % (group, number, word)
+        count = sum(name.startswith(begin) for name in defined)
         assert group in ("CODE", "LIMIT") or count == len(words), "include/cqlp.h has more in %s" % group
 
 

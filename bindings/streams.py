@@ -13,7 +13,7 @@ CRATES = pathlib.Path(__file__).resolve().parent.parent / "crates"
 
 
 def bytes_of(digits):
-    """`20x0009` stands for twenty times the digits 0009."""
+    """`20x0009` means twenty times the digits 0009."""
     return "".join(
         part.split("x")[1] * int(part.split("x")[0]) if "x" in part else part for part in digits.split()
     )
@@ -41,9 +41,9 @@ def inputs(path):
 
 
 def limits(words, text, cell, entries, depth):
-    told = {"text": text, "cell": cell, "entries": entries, "depth": depth}
-    told.update((name, int(n)) for name, n in re.findall(r"--(text|cell|entries|depth)[ =](\d+)", words))
-    return [*told.values(), int("--raw" not in words), int("--parts" in words)]
+    given = {"text": text, "cell": cell, "entries": entries, "depth": depth}
+    given.update((name, int(n)) for name, n in re.findall(r"--(text|cell|entries|depth)[ =](\d+)", words))
+    return [*given.values(), int("--raw" not in words), int("--parts" in words)]
 
 
 def write(name, bounds, digits, lines, verdict):

@@ -319,7 +319,7 @@ def segments_of(file):
 
 
 def directions_of(file):
-    """Of each direction what its stream has to tell: from the first byte on the bytes that the first segment carried, and between them
+    """Of each direction what its stream has to report: from the first byte on the bytes that the first segment carried, and between them
     what was lost, and what that segment's packet was cut before."""
     directions = {}
     for at, (source, target, sequence, flags, payload, missing) in enumerate(segments_of(file)):
@@ -339,14 +339,14 @@ def directions_of(file):
             d['fin'] = place + len(payload) + missing
     for d in directions.values():
         if d['first'] is None:
-            d['told'], d['data'] = 'bytes 0 sum 0', b''
+            d['report'], d['data'] = 'bytes 0 sum 0', b''
             continue
         end = max(d['bytes'], default=-1) + 1 if d['fin'] is None else d['fin']
         holds = [d['bytes'].get(place, 'lost') for place in range(end)]
         data = bytes(byte for byte in holds if isinstance(byte, int))
         after = (['ended'] if d['fin'] is not None else []) + [f'bytes {len(data)} sum {sum_of(data)}']
         before = [f"began {str(d['syn']).lower()}"]
-        d['told'] = ' '.join(before + gaps_in(['gap' if byte == 'lost' else 'cut' if byte is None else None for byte in holds]) + after)
+        d['report'] = ' '.join(before + gaps_in(['gap' if byte == 'lost' else 'cut' if byte is None else None for byte in holds]) + after)
         d['data'] = data
     return directions
 
@@ -369,7 +369,7 @@ def streams(name, file):
             side = 'responses' if i % 2 else 'requests'
             stem = name.split('.')[0] if 'sll2' in name else 'driver'
             assert d['data'] == open(f'data/{stem}.{i // 2}.{side}.bin', 'rb').read(), (name, i)
-    return [f"{d['ports']} {d['told']}" for d in directions.values()]
+    return [f"{d['ports']} {d['report']}" for d in directions.values()]
 
 
 def connections(port, file):
@@ -381,12 +381,12 @@ def connections(port, file):
             foreign += d['segments']
         elif not any((target, source) in pair for pair in pairs):
             pairs.append([(source, target), (target, source)] if other == port else [(target, source), (source, target)])
-    nothing = {'told': 'bytes 0 sum 0', 'segments': 0, 'last': -1}
+    nothing = {'report': 'bytes 0 sum 0', 'segments': 0, 'last': -1}
     lines = []
     for number, pair in sorted(enumerate(pairs, 1), key=lambda one: max(directions.get(ends, nothing)['last'] for ends in one[1])):
         for way, ends in zip(('requests', 'responses'), pair):
             d = directions.get(ends, nothing)
-            lines.append(f"{number} {way} {d['told']} segments {d['segments']}")
+            lines.append(f"{number} {way} {d['report']} segments {d['segments']}")
     return lines + [f'connections {len(pairs)} crowded 0 foreign {foreign}']
 
 
@@ -532,7 +532,7 @@ class Body:
             raise Short
 
 
-def tell_request(body, kind, said):
+def read_request(body, kind, said):
     """Sections 4.1.4 to 4.1.7."""
     if kind == 'Batch':
         body.take(1)
@@ -557,7 +557,7 @@ def tell_request(body, kind, said):
         said['page'] = body.number(4, True)
 
 
-def tell_result(body, said):
+def read_result(body, said):
     """Sections 4.2.5 and 4.2.5.2."""
     said['result'] = body.number(4)
     if said['result'] != 2:
@@ -597,11 +597,11 @@ def facts(frame):
                     body.string(), body.content(-2**31)
             before = body.at
             if kind in ('Query', 'Execute', 'Batch'):
-                tell_request(body, kind, said)
+                read_request(body, kind, said)
             elif kind == 'Error':
                 said['error'] = body.number(4)
             elif kind == 'Result':
-                tell_result(body, said)
+                read_result(body, said)
         else:
             before = 0
     except Short:
@@ -661,7 +661,7 @@ class Watched:
         what = 'unanswered' if frame['opcode'] in REQUESTS else 'unasked'
         self.lines.append(f'{self.number} {what} {names_of(self.number, frame)}')
 
-    def tell(self, side, frames):
+    def pair(self, side, frames):
         """A response is that to the request under its id, also where that comes after it in the capture but was sent before it."""
         for frame in frames:
             if side.responses and OPCODES[frame['opcode']] == 'Event' and frame['stream'] < 0:
@@ -690,7 +690,7 @@ class Watched:
                 if acknowledged is not None and acknowledged < later:
                     return
                 self.lines.append(f'{self.number} {way} gap {later - side.next} at {side.next}')
-                self.tell(side, side.gap(later - side.next, None))
+                self.pair(side, side.gap(later - side.next, None))
                 continue
             _, time, place = side.early[side.next]
             begins, run = place == side.next, []
@@ -698,10 +698,10 @@ class Watched:
                 run.append(side.early.pop(side.next + len(run))[0])
             data = bytes(byte for byte in run if byte is not None)
             if data:
-                self.tell(side, side.hear(data, time, begins))
+                self.pair(side, side.hear(data, time, begins))
             if len(data) < len(run):
                 self.lines.append(f'{self.number} {way} cut {len(run) - len(data)} at {side.next}')
-                self.tell(side, side.gap(len(run) - len(data), time))
+                self.pair(side, side.gap(len(run) - len(data), time))
 
     def take(self, own, time, sequence, flags, payload, missing):
         """A segment of a side."""
@@ -725,7 +725,7 @@ class Watched:
         for side in self.sides:
             if side.frame:
                 side.frame['extent'] = 'short' if side.frame['left'] else side.frame['extent']
-                self.tell(side, [side.over()])
+                self.pair(side, [side.over()])
         for stream in sorted(self.waiting):
             self.alone(self.waiting[stream])
 
@@ -758,7 +758,7 @@ assert packets('driver.pcapng') == packets('driver.pcap') and len(packets('drive
 # captures in which no byte is missing: the streams' bytes are what the sockets saw
 WHOLE = {f'driver{kind}' for kind in ('.pcap', '.pcapng', '-big-endian.pcap', '-ns.pcap', '-vlan.pcap', '-sll2.pcap', '-twice.pcap', '-swapped.pcap', '-overlap.pcap', '-cut.pcap')}
 
-# what is told of these, in which it matters when a segment comes
+# what has to be reported of these, in which it matters when a segment comes
 BY_HAND = {
     'numbers that wrap': [
         f"40000 9042 began true gap 3 at 10 ended bytes 12 sum {sum_of(b'abcdefghijno')}",

@@ -508,11 +508,11 @@ class Capture:
         """Whether all bytes of these parts before this one were captured."""
         return all(packet is not None and self.captured(packet) >= min(until, end) for begin, until, packet in parts if begin < end)
 
-    # -- what is to be told
+    # -- what has to be reported
 
     def objects(self):
         """The objects that --json is to write, and those that it may write in place of two of them: a request whose response was not captured with the response
-        to a later request under its stream id that was not captured either, which nothing in the capture tells apart."""
+        to a later request under its stream id that was not captured either, which nothing in the capture distinguishes."""
         due, doubtful = [], []
         for connection, number in self.numbers.items():
             seen = {}
@@ -543,8 +543,8 @@ class Capture:
                 waiting[request.stream] = request
 
     def object(self, number, seen, request, response):
-        told = "event" if response and response.stream < 0 else "exchange" if request and response else "unanswered" if request else "unasked"
-        found = {"told": told, "connection": number, "stream": (request or response).stream}
+        kind = "event" if response and response.stream < 0 else "exchange" if request and response else "unanswered" if request else "unasked"
+        found = {"told": kind, "connection": number, "stream": (request or response).stream}
         for side, message in (("request", request), ("response", response)):
             if message:
                 is_whole = seen[id(message)].is_whole
@@ -552,7 +552,7 @@ class Capture:
                 found.update({key: value for key, value in message.template.facts.items() if is_whole})
         begun = seen[id(request or response)].begun
         found["time"] = begun - self.segments[0].time
-        if told == "exchange" and seen[id(response)].ended is not None:
+        if kind == "exchange" and seen[id(response)].ended is not None:
             found["took"] = seen[id(response)].ended - begun
         return found
 

@@ -30,8 +30,8 @@ ENDS = {"1": "closed", "2": "closed"}
 PATIENCE = 20
 
 
-def told(name):
-    """What is told of a capture, in order: what it is, the connection's number, and its messages."""
+def reports(name):
+    """What has to be reported of a capture, in order: of each line its kind, the connection's number, and its messages."""
     said = (HERE / "said.txt").read_text()
     found = re.search(rf"^== exchanges 64 of \d+ {re.escape(SAME.get(name, name))}\n((?:(?!== ).*\n)*)", said, re.M)
     for line in found[1].splitlines():
@@ -41,7 +41,7 @@ def told(name):
 
 
 def ids(name):
-    """The ids of statements that the driver sent, each by the number that stands for it in said.txt."""
+    """The ids of statements that the driver sent, each by the number that it has in said.txt."""
     for file in HERE.glob("data/*.requests.bin"):
         rest = file.read_bytes()
         while rest:
@@ -130,7 +130,7 @@ def entries(fields):
 
 
 def batch(flags, body, known):
-    """Patterns of what stands after the opcode of a BATCH: its consistency, how many statements it has, and the first of them."""
+    """Patterns of what follows the opcode of a BATCH: its consistency, how many statements it has, and the first of them."""
     fields = Fields(body)
     pass_payload(fields, flags)
     found = list(entries(fields))
@@ -140,7 +140,7 @@ def batch(flags, body, known):
 
 
 def asked(flags, body, message):
-    """What stands before the statement of a request, and after it: its consistency, and how many rows a page is to have."""
+    """What comes before the statement of a request, and after it: its consistency, and how many rows a page is to have."""
     fields = Fields(body)
     pass_payload(fields, flags)
     if message["opcode"] not in ("Query", "Execute"):
@@ -174,7 +174,7 @@ def said_by(fields, message):
 
 
 def answered(flags, body, message):
-    """What stands after the kind of a response."""
+    """What follows the kind of a response."""
     fields = Fields(body)
     tracing = f" tracing {uuid.UUID(bytes=fields.take(16))}" if flags & 0x02 else ""
     warnings = [fields.text() for _ in range(fields.number())] if flags & 0x08 else None
@@ -218,7 +218,7 @@ def response(message, name, number):
 def patterns(name):
     """A pattern of each line, and when the line is due, in nanoseconds, if its messages say that."""
     first, known = first_time(name), dict(ids(name), prepared=[])
-    for kind, number, messages in told(name):
+    for kind, number, messages in reports(name):
         begun, ended = int(messages[0]["begun"]), int(messages[-1]["ended"])
         start = re.escape(f"{(begun - first) // 10**9}.{(begun - first) % 10**9 // 1000:06} {number}:{messages[0]['stream']} ")
         if kind == "exchange":

@@ -16,7 +16,7 @@ batches      BATCHes and what answers them: of no statement, of a text and an id
 prepared     one connection, on which statements are prepared and executed, and pages come that describe no columns
 statements   one connection, on which 300 statements are prepared, each with as many columns as are known, and executed
 flight       one connection, on which 100 requests are sent before the first of their 100 responses
-parted       one connection with an exchange under stream id 0 and one under id COUNT, whose request stands in the file before the response to the first, which
+parted       one connection with an exchange under stream id 0 and one under id COUNT, whose request is in the file before the response to the first, which
              passed earlier
 versions     three connections: one begins in version 5 on both sides, one is in version 3 from the middle, and one is from the middle of a body
 tls          one connection, which begins with TLS on both sides
@@ -355,7 +355,7 @@ def exchange(port, stream, number):
 
 
 def parted(second):
-    """An exchange under stream id 0 and one under this id, whose request stands in the file before the response to the first, which passed earlier."""
+    """An exchange under stream id 0 and one under this id, whose request is in the file before the response to the first, which passed earlier."""
     first, then = exchange(10_000, 0, 0), exchange(10_000, second, 9)
     for microseconds, packet in zip((0, 2, 1, 3), (next(first), next(then), next(first), next(then))):
         yield record(packet, microseconds=microseconds)
@@ -455,7 +455,7 @@ def capture(kind, *count):
     return of_pcap(made(*map(int, count)))
 
 
-def tell_most(command):
+def print_most(command):
     status = subprocess.run(command, stdout=subprocess.DEVNULL, stderr=subprocess.DEVNULL).returncode
     print(status, resource.getrusage(resource.RUSAGE_CHILDREN).ru_maxrss)
 
@@ -470,7 +470,7 @@ def write_long(path, size="130"):
         file.truncate(at + 16 + 262_144)
 
 
-def tell_terminal(command):
+def print_terminal(command):
     ours, theirs = pty.openpty()
     program = subprocess.Popen(command, stdout=subprocess.DEVNULL, stderr=theirs)
     os.close(theirs)
@@ -484,7 +484,7 @@ def tell_terminal(command):
     print(said.decode().replace("\r\n", "\n"), end="")
 
 
-def tell_interrupted(file, *command):
+def print_interrupted(file, *command):
     child, terminal = pty.fork()
     if child == 0:
         signal.signal(signal.SIGINT, signal.SIG_DFL)  # It may be ignored here, as of what a script runs behind its back.
@@ -506,12 +506,12 @@ def tell_interrupted(file, *command):
 
 if __name__ == "__main__":
     if sys.argv[1] == "most":
-        tell_most(sys.argv[2:])
+        print_most(sys.argv[2:])
     elif sys.argv[1] == "long":
         write_long(*sys.argv[2:])
     elif sys.argv[1] == "terminal":
-        tell_terminal(sys.argv[2:])
+        print_terminal(sys.argv[2:])
     elif sys.argv[1] == "interrupted":
-        tell_interrupted(*sys.argv[2:])
+        print_interrupted(*sys.argv[2:])
     else:
         sys.stdout.buffer.writelines(capture(*sys.argv[1:]))

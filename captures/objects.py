@@ -104,12 +104,12 @@ def main(file, *command):
     for text, of in zip(lines, objects):
         if differs(text, of):
             print(f"{text}\n{line(of)}")
-    told = {}
+    counted = {}
     for text in summary[1:]:
         words = text.split(None, 11)
-        told[words[11]] = [int(word) for word in words[2:7]]
-    if told != sums(objects):
-        print(f"{told}\n{dict(sums(objects))}")
+        counted[words[11]] = [int(word) for word in words[2:7]]
+    if counted != sums(objects):
+        print(f"{counted}\n{dict(sums(objects))}")
 
 
 if __name__ == "__main__":

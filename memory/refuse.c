@@ -44,7 +44,7 @@ void free(void *block) {
   real(block);
 }
 
-__attribute__((destructor)) static void tell(void) {
+__attribute__((destructor)) static void write_counts(void) {
   long requests = seen, bytes = asked, blocks = held; /* fopen makes more */
   const char *name = getenv("SEEN");
   FILE *file = name ? fopen(name, "w") : NULL;

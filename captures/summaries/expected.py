@@ -14,7 +14,7 @@ def shown(text):
 
 
 def greatest_in_bucket(time):
-    """A time is told by its first six binary digits."""
+    """A time is counted by its first six binary digits."""
     dropped = max(time.bit_length() - 6, 0)
     return (time >> dropped << dropped) + (1 << dropped) - 1
 

@@ -4,7 +4,7 @@ use cqlp::frame::{Atom, Frame, Message, Metadata, Rows, Spec, TypeTree, Value};
 use cqlp::memory::{AllocError, Box};
 use cqlp::{Global, Kind};
 
-/// What stands in a column.
+/// What a column holds.
 #[derive(Clone, Copy)]
 pub enum Column {
     Int,

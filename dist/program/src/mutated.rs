@@ -117,10 +117,10 @@ fn text(target: OfStd<Vec<u8>>) -> String {
 }
 
 /// The status and both outputs.
-type Told = (u8, String, String);
+type Outcome = (u8, String, String);
 
-/// What is written of a file, in at most so many MiB.
-fn told(file: &[u8], most: usize, room: isize, write: impl Fn(&mut Pieces, OfStd<Vec<u8>>, OfStd<Vec<u8>>) -> (u8, OfStd<Vec<u8>>, OfStd<Vec<u8>>)) -> Told {
+/// The outcome of a call that writes of a file, in at most so many MiB.
+fn outcome(file: &[u8], most: usize, room: isize, write: impl Fn(&mut Pieces, OfStd<Vec<u8>>, OfStd<Vec<u8>>) -> (u8, OfStd<Vec<u8>>, OfStd<Vec<u8>>)) -> Outcome {
     let mut pieces = Pieces { rest: file, most, numbers: Numbers(most as u64 | 1) };
     let (out, err) = (OfStd::new(Vec::with_capacity(64 << 20)), OfStd::new(Vec::with_capacity(1_000)));
     let ((status, out, err), taken, held) = measured(|| write(&mut pieces, out, err));
@@ -130,27 +130,27 @@ fn told(file: &[u8], most: usize, room: isize, write: impl Fn(&mut Pieces, OfStd
 }
 
 /// The exchanges in a file that are asked for, in this form.
-fn exchanges(file: &[u8], most: usize, ports: &[u16], filter: ExchangeFilter, form: ExchangeForm) -> Told {
-    told(file, most, 64, |pieces, out, err| write_exchanges(Global, StreamsLimits::DEFAULT, ExchangeLimits::DEFAULT, ports, filter, form, Buffering::Block, pieces, out, err))
+fn exchanges(file: &[u8], most: usize, ports: &[u16], filter: ExchangeFilter, form: ExchangeForm) -> Outcome {
+    outcome(file, most, 64, |pieces, out, err| write_exchanges(Global, StreamsLimits::DEFAULT, ExchangeLimits::DEFAULT, ports, filter, form, Buffering::Block, pieces, out, err))
 }
 
 /// The events of the frames in a file.
-fn events(file: &[u8], most: usize, ports: &[u16]) -> Told {
-    told(file, most, 70, |pieces, out, err| write_events(Global, StreamsLimits::DEFAULT, ports, None, pieces, out, err))
+fn events(file: &[u8], most: usize, ports: &[u16]) -> Outcome {
+    outcome(file, most, 70, |pieces, out, err| write_events(Global, StreamsLimits::DEFAULT, ports, None, pieces, out, err))
 }
 
 /// The pages on the connection with this number.
-fn rows(file: &[u8], most: usize, ports: &[u16], connection: u64) -> Told {
-    told(file, most, 64, |pieces, out, err| write_rows(Global, StreamsLimits::DEFAULT, ports, connection, pieces, out, err))
+fn rows(file: &[u8], most: usize, ports: &[u16], connection: u64) -> Outcome {
+    outcome(file, most, 64, |pieces, out, err| write_rows(Global, StreamsLimits::DEFAULT, ports, connection, pieces, out, err))
 }
 
 /// The lines say how long the files are, and the last line how long all of them are.
 fn agree(made: &Made) {
     let lines: Vec<Vec<&str>> = made.lines.lines().map(|line| line.split(' ').collect()).collect();
     let number = |word: &str| word.parse::<u64>().unwrap();
-    let told: Vec<_> = lines.iter().filter(|line| line[0] == "connection").map(|line| (number(line[1]), number(line[5]), number(line[11]))).collect();
+    let reported: Vec<_> = lines.iter().filter(|line| line[0] == "connection").map(|line| (number(line[1]), number(line[5]), number(line[11]))).collect();
     let lengths: Vec<_> = made.kept.iter().map(|(number, [requests, responses])| (*number, requests.0, responses.0)).collect();
-    assert_eq!(told, lengths);
+    assert_eq!(reported, lengths);
     let after = |word| made.said.split(' ').skip_while(|other| *other != word).nth(1).map(|word| number(word.trim())).unwrap();
     assert_eq!(after("bytes"), lengths.iter().map(|(_, requests, responses)| requests + responses).sum());
     assert_eq!(after("gaps"), lines.iter().filter(|line| line[0] == "gap").count() as u64);
@@ -193,7 +193,7 @@ fn changed(numbers: &mut Numbers, records: &[Vec<u8>]) -> Vec<Vec<u8>> {
     for _ in 0..numbers.one_of(&[0, 1, 1, 2, 3, 8]) {
         let packet = numbers.below(packets.len());
         let packet = &mut packets[packet][16..];
-        // The headers are what tells most: a byte of them more often than any other.
+        // The headers decide most: a byte of them more often than any other.
         let place = numbers.below(packet.len()).min(numbers.one_of(&[usize::MAX, numbers.0 as usize % 66]));
         let byte = numbers.below(256) as u8;
         packet[place] = numbers.one_of(&[0, 1, 2, 4, 0x7f, 0x80, 0xff, byte, packet[place] ^ 1, packet[place].wrapping_add(3)]);

@@ -1,4 +1,4 @@
-//! What a table of connections tells of the segments of a capture.
+//! What a table of connections reports of the segments of a capture.
 use super::{Asked, Packet, fold};
 use crate::cqlp_tcp_connections::{ConnectionTotals, Connections, Departure, DirectionTotals, Admission, Delivery, Way};
 use crate::cqlp_tcp_reassembly::{GapCause, StreamStep};
@@ -7,7 +7,7 @@ use crate::heap::refusing;
 use crate::kit_std::alloc::{AllocError, Global};
 use std::fmt::Write;
 
-/// What was told of one direction of a connection.
+/// What was reported of one direction of a connection.
 #[derive(Default)]
 struct Heard {
     bytes: u64,
@@ -15,7 +15,7 @@ struct Heard {
     said: String,
 }
 
-/// What was told of all connections, in the order of their numbers, requests and responses; and a line for each direction of those that left.
+/// What was reported of all connections, in the order of their numbers, requests and responses; and a line for each direction of those that left.
 struct Listener {
     connections: Connections,
     /// Whether each call of the table is made without memory first.
@@ -24,7 +24,7 @@ struct Listener {
     said: String,
 }
 
-/// A line for each direction of a connection in a capture, when it leaves, and what was counted. The same is told where each call is refused
+/// A line for each direction of a connection in a capture, when it leaves, and what was counted. The same is reported where each call is refused
 /// memory first, and made again if it says so; and each request of `new` is needed.
 pub fn said(asked: Asked, packets: &[Packet]) -> String {
     let make = || Connections::new(Global, asked.limits, &[asked.port]);
@@ -50,7 +50,7 @@ impl Listener {
     }
 
     /// What a call answers that takes no memory.
-    fn tell_of<T>(&mut self, call: impl Fn(&mut Connections) -> T) -> T {
+    fn ask_plainly<T>(&mut self, call: impl Fn(&mut Connections) -> T) -> T {
         self.ask(|connections| Ok(call(connections)))
     }
 
@@ -73,8 +73,8 @@ impl Listener {
                 }
                 Admission::Taken { number, .. } => {
                     self.pairs.resize_with(self.pairs.len().max(number as usize), Default::default);
-                    while let Some(told) = self.ask(|connections| connections.pull(segment, None)) {
-                        self.tell(told, segment.payload);
+                    while let Some(delivery) = self.ask(|connections| connections.pull(segment, None)) {
+                        self.note(delivery, segment.payload);
                     }
                     return;
                 }
@@ -85,8 +85,8 @@ impl Listener {
 
     fn leave(&mut self) {
         loop {
-            match self.tell_of(|connections| connections.leave()) {
-                Departure::Delivery(told) => self.tell(told, &[]),
+            match self.ask_plainly(|connections| connections.leave()) {
+                Departure::Delivery(delivery) => self.note(delivery, &[]),
                 Departure::Left(totals) => return self.put(&totals),
                 Departure::Empty => return,
             }
@@ -95,40 +95,41 @@ impl Listener {
 
     fn end(&mut self) {
         loop {
-            match self.tell_of(|connections| connections.finish()) {
-                Departure::Delivery(told) => self.tell(told, &[]),
+            match self.ask_plainly(|connections| connections.finish()) {
+                Departure::Delivery(delivery) => self.note(delivery, &[]),
                 Departure::Left(totals) => self.put(&totals),
                 Departure::Empty => break,
             }
         }
-        let counts = self.tell_of(|connections| connections.counts());
+        let counts = self.ask_plainly(|connections| connections.counts());
         writeln!(self.said, "connections {} crowded {} foreign {}", counts.connections, counts.crowded, counts.foreign).unwrap();
     }
 
-    fn tell(&mut self, told: Delivery, payload: &[u8]) {
-        let bytes = match told.step {
+    /// Adds a delivery to what was reported of its direction.
+    fn note(&mut self, delivery: Delivery, payload: &[u8]) {
+        let bytes = match delivery.step {
             StreamStep::Payload { from, count } => payload[from..from + count].to_vec(),
-            StreamStep::Held { .. } => self.connections.held(told.way).to_vec(),
+            StreamStep::Held { .. } => self.connections.held(delivery.way).to_vec(),
             _ => Vec::new(),
         };
-        if matches!(told.step, StreamStep::Held { .. }) {
-            self.tell_of(|connections| connections.pass_held(told.way));
+        if matches!(delivery.step, StreamStep::Held { .. }) {
+            self.ask_plainly(|connections| connections.pass_held(delivery.way));
         }
-        let heard = &mut self.pairs[told.number as usize - 1][told.way as usize];
+        let heard = &mut self.pairs[delivery.number as usize - 1][delivery.way as usize];
         heard.sum = fold(heard.sum, &bytes);
         heard.bytes += bytes.len() as u64;
-        heard.said += &match told.step {
+        heard.said += &match delivery.step {
             StreamStep::Payload { .. } | StreamStep::Held { .. } | StreamStep::Kept => String::new(),
             StreamStep::Began { syn } => format!("began {syn} "),
-            StreamStep::Gap { length, cause: GapCause::Lost, .. } => format!("gap {length} at {} ", told.at),
-            StreamStep::Gap { length, cause: GapCause::Snapped, .. } => format!("cut {length} at {} ", told.at),
+            StreamStep::Gap { length, cause: GapCause::Lost, .. } => format!("gap {length} at {} ", delivery.at),
+            StreamStep::Gap { length, cause: GapCause::Snapped, .. } => format!("cut {length} at {} ", delivery.at),
             StreamStep::Ended => "ended ".to_string(),
             StreamStep::Reset => "reset ".to_string(),
             StreamStep::Done => "done ".to_string(),
         };
     }
 
-    /// Writes down what was told of a connection that has left.
+    /// Writes down what was reported of a connection that has left.
     fn put(&mut self, totals: &ConnectionTotals) {
         let pair = &self.pairs[totals.number as usize - 1];
         for (way, total) in [(Way::Requests, &totals.requests), (Way::Responses, &totals.responses)] {

@@ -1,4 +1,4 @@
-//! What is told of the requests and responses on the connections of a capture.
+//! What is reported of the requests and responses on the connections of a capture.
 use super::facts::words;
 use super::{Asked, Packet, fold};
 use crate::cqlp_note::Prim;
@@ -57,7 +57,7 @@ impl Watcher {
         }
         loop {
             match connections.finish() {
-                Departure::Delivery(told) => self.tell(&mut connections, told, &[])?,
+                Departure::Delivery(delivery) => self.watch_delivery(&mut connections, delivery, &[])?,
                 Departure::Left(totals) => self.leave(totals.number)?,
                 Departure::Empty => return Ok(()),
             }
@@ -82,27 +82,27 @@ impl Watcher {
             self.watches.push(made);
         }
         let time = self.time;
-        while let Some(told) = self.ask(|_| connections.pull(segment, time))? {
-            self.tell(connections, told, segment.payload)?;
+        while let Some(delivery) = self.ask(|_| connections.pull(segment, time))? {
+            self.watch_delivery(connections, delivery, segment.payload)?;
         }
         Ok(())
     }
 
-    /// Watches the next of one direction.
-    fn tell(&mut self, connections: &mut Connections, told: Delivery, payload: &[u8]) -> Result<(), AllocError> {
-        let (number, responses, room) = (told.number, told.way == Way::Responses, self.room);
+    /// Watches the next delivery of one direction.
+    fn watch_delivery(&mut self, connections: &mut Connections, delivery: Delivery, payload: &[u8]) -> Result<(), AllocError> {
+        let (number, responses, room) = (delivery.number, delivery.way == Way::Responses, self.room);
         let at = number as usize - 1;
-        match told.step {
+        match delivery.step {
             StreamStep::Began { syn } => self.watches[at].begin(responses, syn),
-            StreamStep::Payload { from, count } => self.hear(told, self.time, &payload[from..from + count], from == 0)?,
+            StreamStep::Payload { from, count } => self.hear(delivery, self.time, &payload[from..from + count], from == 0)?,
             StreamStep::Held { time, begins } => {
-                self.hear(told, time, connections.held(told.way), begins)?;
-                connections.pass_held(told.way);
+                self.hear(delivery, time, connections.held(delivery.way), begins)?;
+                connections.pass_held(delivery.way);
             }
             StreamStep::Gap { length, cause, time } => {
                 let side = if responses { "responses" } else { "requests" };
                 let what = if cause == GapCause::Lost { "gap" } else { "cut" };
-                self.said += &format!("{number} {side} {what} {length} at {}\n", told.at);
+                self.said += &format!("{number} {side} {what} {length} at {}\n", delivery.at);
                 let paired = self.ask(|watches| watches[at].gap(responses, length, time, room))?;
                 self.say(number, paired);
             }
@@ -116,12 +116,12 @@ impl Watcher {
     }
 
     /// Watches bytes of one direction, which came at this time.
-    fn hear(&mut self, told: Delivery, time: Option<u64>, bytes: &[u8], begins: bool) -> Result<(), AllocError> {
-        let (at, room, mut rest) = (told.number as usize - 1, self.room, bytes);
+    fn hear(&mut self, delivery: Delivery, time: Option<u64>, bytes: &[u8], begins: bool) -> Result<(), AllocError> {
+        let (at, room, mut rest) = (delivery.number as usize - 1, self.room, bytes);
         loop {
             let is_first = begins && rest.len() == bytes.len();
-            let step = self.ask(|watches| watches[at].take(told.way == Way::Responses, rest, time, is_first, room))?;
-            self.say(told.number, step.reported);
+            let step = self.ask(|watches| watches[at].take(delivery.way == Way::Responses, rest, time, is_first, room))?;
+            self.say(delivery.number, step.reported);
             if step.is_done {
                 return Ok(());
             }
@@ -142,9 +142,9 @@ impl Watcher {
         Ok(())
     }
 
-    /// A line of what is told of the connection with this number.
-    fn say(&mut self, number: u64, told: Option<Paired<Kept>>) {
-        self.said += &match told {
+    /// Adds a line of what is reported of the connection with this number.
+    fn say(&mut self, number: u64, reported: Option<Paired<Kept>>) {
+        self.said += &match reported {
             None => return,
             Some(Paired::Exchange { request, response }) => format!("{number}:{} -> {}\n", said_of(&request), said_of(&response)),
             Some(Paired::Unanswered { request }) => format!("{number} unanswered {}\n", said_of(&request)),

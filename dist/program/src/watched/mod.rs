@@ -1,4 +1,4 @@
-//! What a table of connections tells of the segments of captures, what is told of the requests and responses on them, what single frames say,
+//! What a table of connections reports of the segments of captures, what is reported of the requests and responses on them, what single frames say,
 //! and summaries of statements. The folder captures, which CQLP_CAPTURES names, has the lines that ask, lines.txt, and what is to be said of them,
 //! said.txt, which is by a reading in Python (expected.py); and the same of summaries.
 //!
@@ -30,7 +30,7 @@ fn text(name: &str) -> String {
 }
 
 #[test]
-fn what_is_told_of_captures() {
+fn what_is_reported_of_captures() {
     let (wanted, mut count) = (text("said.txt"), 0);
     let mut wanted = wanted.split_inclusive('\n').peekable();
     for line in text("lines.txt").lines() {
@@ -120,7 +120,7 @@ fn packets_of(file: &[u8]) -> Vec<Packet> {
     packets
 }
 
-/// A number that tells bytes apart: each time 31 times the number before, and the next byte; `before` is 0 at the first.
+/// A number that distinguishes bytes: each time 31 times the number before, and the next byte; `before` is 0 at the first.
 fn fold(before: u32, bytes: &[u8]) -> u32 {
     bytes.iter().fold(before, |sum, byte| sum.wrapping_mul(31).wrapping_add(u32::from(*byte)))
 }
