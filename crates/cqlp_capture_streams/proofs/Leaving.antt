@@ -1,13 +1,15 @@
 -- Packets that come to a window and leave it.
-use Rattle.std.proofs.Common.{◌≡◌, ◌∙◌, ℕ, ◌<◌, Bool, true, false, cond, List, [], ◌∷◌, ◌++◌, length, Option, Some, None, refl, sym, ap, subst, inr, ◌⊎◌, append_assoc, append-nil, arith}
+use Rattle.std.proofs.Common.{◌≡◌, ◌∙◌, ℕ, ◌<◌, Bool, true, false, cond, List, [], ◌∷◌, ◌++◌, length, Option, Some, None, Result, Ok, refl, sym, ap, subst, inr, ◌⊎◌, append_assoc, append-nil, arith}
 use Rattle.cqlp_packet_order.specs.Packets as kept
 use Rattle.cqlp_packet_order.specs.Orders.{Order, Release, arrived, due_left, first_left, passes, releasing, with_passed}
 use Rattle.cqlp_packet_order.proofs.Windows.{none_is_due, one_fewer, passing}
+use Rattle.cqlp_tcp_segment.specs.declared.reason.NoSegment.{NoSegment}
+use Rattle.cqlp_tcp_segment.specs.Segment.{Seen}
 use Rattle.cqlp_tcp_connections.specs.Tables.{Table}
 use Rattle.cqlp_capture_streams.specs.declared.packets.PacketCounts.{PacketCounts}
 use Rattle.cqlp_capture_streams.specs.ConnectionEvents.{ConnectionEvent}
-use Rattle.cqlp_capture_streams.specs.Reportings.{FinishesAll}
-use Rattle.cqlp_capture_streams.specs.Packets.{Finishes, Hands, HandsAll, HandsEach, SplitState, ReportsArrived, ReportsCome, ReportsPacket, packet_begun, split_state, with_order, with_table}
+use Rattle.cqlp_capture_streams.specs.Reportings.{FinishesAll, ReportsTimed}
+use Rattle.cqlp_capture_streams.specs.Packets.{Finishes, Hands, HandsAll, HandsEach, SplitState, ReportsArrived, ReportsCome, ReportsPacket, ReportsRead, is_snapped, packet_begun, segment_in, split_state, with_order, with_segment, with_table}
 
 -- one packet more
 pub each_more : (leaves : Order → Release) (s m u : SplitState) (ps : List kept.Packet) (p : kept.Packet) (ss ts : List ConnectionEvent) → HandsEach leaves s ps ss m → Hands leaves true m p ts u → HandsEach leaves s (ps ++ p ∷ []) (ss ++ ts) u
@@ -29,6 +31,16 @@ fewer_wait leaves s u t o o' link time original counts p ways view left same =
     let before = ap (λ (z : SplitState). length z.order.waiting) view in
     let after = ap (λ (z : Order). length z.waiting) same in
     omega (arith, few, before, after)
+
+-- ---- a packet with a segment
+
+-- It is counted, and reports what the segment does.
+pub segment_read : (all : Bool) (s : SplitState) (t t' : Table) (o : Order) (link : ℕ) (time : Option ℕ) (original : ℕ) (counts counts' : PacketCounts) (p : kept.Packet) (g : Seen) (snapped : Bool) (ss : List ConnectionEvent) → split_state t o link time original counts ≡ s → segment_in p ≡ Ok g → snapped ≡ is_snapped s.table g → counts' ≡ with_segment snapped counts → ReportsTimed all p.time g t ss t' → ReportsPacket p all s ss (split_state t' o link time original counts')
+segment_read all s t t' o link time original counts counts' p g snapped ss view is cut counts_is a =
+    let there = subst (λ (z : SplitState). ReportsTimed all p.time g z.table ss t') view a in
+    let one = ap (λ (z : PacketCounts). split_state t' o link time original z) (counts_is ∙ ap (λ (b : Bool). with_segment b counts) cut) in
+    let two = ap (λ (z : SplitState). split_state t' z.order z.link z.time z.original (with_segment (is_snapped s.table g) z.counts)) view in
+    subst (λ (z : Result Seen NoSegment). ReportsRead z p.time all s ss (split_state t' o link time original counts')) (sym is) (there, one ∙ two)
 
 -- ---- a packet comes
 

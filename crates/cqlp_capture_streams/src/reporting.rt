@@ -3,10 +3,10 @@
 ghost use Rattle.std.specs.Prelude.{◌≡◌, [], List, ℕ, length};
 ghost use Rattle.cqlp_tcp_segment.specs.Segment.{seen};
 ghost use Rattle.cqlp_tcp_reassembly.specs.Streams.{IsWithin};
-ghost use Rattle.cqlp_capture_streams.specs.ConnectionEvents.{Of, connection_event_of};
+ghost use Rattle.cqlp_capture_streams.specs.ConnectionEvents.{Of};
 ghost use Rattle.cqlp_capture_streams.specs.Listening.{Gets, GetsAll, GetsOne};
-ghost use Rattle.cqlp_capture_streams.specs.Reportings.{FinishesAll, GetsNext, HandsHeld, HandsOn, Leaves, PullsAll, ReportsAgain, ReportsOf};
-ghost use Rattle.cqlp_capture_streams.specs.Reportings.{ReportsSeen, ReportsTimed, beginning, is_done};
+ghost use Rattle.cqlp_capture_streams.specs.Reportings.{FinishesAll, GetsNext, HandsHeld, HandsOn, Leaves, PullsAll, ReportsAgain, ReportsOf, beginning};
+ghost use Rattle.cqlp_capture_streams.specs.Reportings.{is_done};
 
 use crate::connection_event::ConnectionEvent;
 use crate::fault::StreamsFault;
@@ -16,31 +16,9 @@ use cqlp_tcp_reassembly::StreamStep;
 use cqlp_tcp_segment::Segment;
 use std::alloc::{AllocError, Allocator};
 
-/// Gives a listener an event.
-fn hear<L: Listener>(event: &ConnectionEvent<'_>, listener: &mut L) -> Result<(), StreamsFault>
-    ensures { L.reports listener.old → GetsOne L.Listener listener.old (connection_event_of event.now) result listener.new }
-{
-    listener.hear(event)
-}
-
-/// Reports that a packet with a segment comes that was captured at this time, and then what the segment delivers.
-#[inline]
-pub(crate) fn take_timed<L: Listener, A: Allocator + Clone>(
-    time: Option<u64>,
-    connections: &mut Connections<A>,
-    segment: &Segment<'_>,
-    listener: &mut L,
-) -> Result<(), StreamsFault>
-    ensures { Gets L.Listener (λ ss. ReportsTimed (is_done result) time (seen segment.now) connections.old ss connections.new)
-        listener.old result listener.new }
-{
-    hear(&ConnectionEvent::Packet { time }, listener)?;
-    take_segment(time, connections, segment, listener)
-}
-
 /// Has the connection of a segment take it, where need be after another one has left, and reports what that delivers.
 #[inline]
-fn take_segment<L: Listener, A: Allocator + Clone>(
+pub(crate) fn take_segment<L: Listener, A: Allocator + Clone>(
     time: Option<u64>,
     connections: &mut Connections<A>,
     segment: &Segment<'_>,
@@ -49,17 +27,21 @@ fn take_segment<L: Listener, A: Allocator + Clone>(
     ensures { Gets L.Listener (λ ss. ReportsOf (is_done result) (seen segment.now) time connections.old ss connections.new)
         listener.old result listener.new }
 {
-    let Ok(admission) = connections.take(&segment.head) else {
-        return Err(StreamsFault::NoMemory);
-    };
-    let Admission::Crowded { .. } = admission else {
-        return take_seen(admission, time, connections, segment, listener);
-    };
-    leave(connections, listener)?;
-    take_again(time, connections, segment, listener)
+    match connections.take(&segment.head) {
+        Ok(Admission::Foreign) => Ok(()),
+        Ok(Admission::Taken { number, is_new, .. }) => {
+            begin(is_new, number, listener)?;
+            pull_all(time, connections, segment, listener)
+        }
+        Ok(Admission::Crowded { .. }) => {
+            leave(connections, listener)?;
+            take_again(time, connections, segment, listener)
+        }
+        Err(AllocError) => Err(StreamsFault::NoMemory),
+    }
 }
 
-/// Has the connection of a segment take it after another one has left for it.
+/// Has the connection of a segment take it after another one has left for it. For one segment one connection leaves at most.
 #[cold]
 fn take_again<L: Listener, A: Allocator + Clone>(
     time: Option<u64>,
@@ -71,30 +53,13 @@ fn take_again<L: Listener, A: Allocator + Clone>(
         listener.old result listener.new }
 {
     match connections.take(&segment.head) {
-        Ok(admission) => take_seen(admission, time, connections, segment, listener),
-        Err(AllocError) => Err(StreamsFault::NoMemory),
-    }
-}
-
-/// Reports what a segment delivers that was admitted so. For one segment one connection leaves at most, which makes room for it.
-#[inline(always)]
-fn take_seen<L: Listener, A: Allocator + Clone>(
-    admission: Admission,
-    time: Option<u64>,
-    connections: &mut Connections<A>,
-    segment: &Segment<'_>,
-    listener: &mut L,
-) -> Result<(), StreamsFault>
-    ensures { Gets L.Listener (λ ss. ReportsSeen admission (is_done result) (seen segment.now) time connections.old ss connections.new)
-        listener.old result listener.new }
-{
-    match admission {
-        Admission::Foreign => Ok(()),
-        Admission::Taken { number, is_new, .. } => {
+        Ok(Admission::Taken { number, is_new, .. }) => {
             begin(is_new, number, listener)?;
-            report_taken(time, connections, segment, listener)
+            pull_all(time, connections, segment, listener)
         }
-        Admission::Crowded { .. } => Ok(()),
+        Ok(Admission::Foreign) => Ok(()),
+        Ok(Admission::Crowded { .. }) => Ok(()),
+        Err(AllocError) => Err(StreamsFault::NoMemory),
     }
 }
 
@@ -104,14 +69,14 @@ fn begin<L: Listener>(is_new: bool, number: u64, listener: &mut L) -> Result<(),
         GetsAll L.Listener listener.old (beginning is_new number) result listener.new }
 {
     if is_new {
-        hear(&ConnectionEvent::New { number }, listener)
+        listener.hear(&ConnectionEvent::New { number })
     } else {
         Ok(())
     }
 }
 
 /// Reports all that a segment delivers which was taken. One without payload, as an acknowledgement, mostly delivers nothing.
-fn report_taken<L: Listener, A: Allocator + Clone>(
+fn pull_all<L: Listener, A: Allocator + Clone>(
     time: Option<u64>,
     connections: &mut Connections<A>,
     segment: &Segment<'_>,
@@ -123,19 +88,6 @@ fn report_taken<L: Listener, A: Allocator + Clone>(
     if segment.payload.is_empty() && connections.is_done(segment, time) {
         return Ok(());
     }
-    pull_all(time, connections, segment, listener)
-}
-
-/// The same, whatever it has.
-fn pull_all<L: Listener, A: Allocator + Clone>(
-    time: Option<u64>,
-    connections: &mut Connections<A>,
-    segment: &Segment<'_>,
-    listener: &mut L,
-) -> Result<(), StreamsFault>
-    ensures { Gets L.Listener (λ ss. PullsAll (is_done result) (seen segment.now) time connections.old ss connections.new)
-        listener.old result listener.new }
-{
     for turn in 0..u64::MAX {
         let Ok(next) = connections.pull(segment, time) else {
             return Err(StreamsFault::NoMemory);
@@ -163,7 +115,7 @@ fn leave<L: Listener, A: Allocator>(
     for turn in 0..u64::MAX {
         match connections.leave() {
             Departure::Delivery(delivered) => report_last(connections, delivered, listener)?,
-            Departure::Left(totals) => return hear(&ConnectionEvent::Left(totals), listener),
+            Departure::Left(totals) => return listener.hear(&ConnectionEvent::Left(totals)),
             Departure::Empty => return Ok(()),
         }
     }
@@ -188,6 +140,7 @@ pub(crate) fn finish_all<L: Listener, A: Allocator>(
 }
 
 /// Reports the next event of the connection that leaves first. Says whether there was none.
+#[tactic(auto, using(crate::proofs::Getting::heard))]
 fn finish_one<L: Listener, A: Allocator>(
     connections: &mut Connections<A>,
     listener: &mut L,
@@ -201,7 +154,7 @@ fn finish_one<L: Listener, A: Allocator>(
             Ok(false)
         }
         Departure::Left(totals) => {
-            hear(&ConnectionEvent::Left(totals), listener)?;
+            listener.hear(&ConnectionEvent::Left(totals))?;
             Ok(false)
         }
         Departure::Empty => Ok(true),
@@ -209,6 +162,7 @@ fn finish_one<L: Listener, A: Allocator>(
 }
 
 /// Reports what a segment delivers, with its bytes: those of the payload that are named, or those that the connection held.
+#[tactic(auto, using(crate::proofs::Getting::heard))]
 fn report<L: Listener, A: Allocator>(
     connections: &mut Connections<A>,
     delivered: Delivery,
@@ -223,7 +177,7 @@ fn report<L: Listener, A: Allocator>(
     match delivered.step {
         StreamStep::Payload { from, count } => {
             let bytes = &payload[from..from + count];
-            hear(&ConnectionEvent::Of { delivered, bytes }, listener)
+            listener.hear(&ConnectionEvent::Of { delivered, bytes })
         }
         StreamStep::Held { .. } => report_held(connections, delivered, listener),
         StreamStep::Began { .. }
@@ -231,17 +185,15 @@ fn report<L: Listener, A: Allocator>(
         | StreamStep::Kept
         | StreamStep::Ended
         | StreamStep::Reset
-        | StreamStep::Done => hear(
-            &ConnectionEvent::Of {
-                delivered,
-                bytes: &[],
-            },
-            listener,
-        ),
+        | StreamStep::Done => listener.hear(&ConnectionEvent::Of {
+            delivered,
+            bytes: &[],
+        }),
     }
 }
 
 /// Reports what a connection delivers without a segment: of bytes those that the connection held.
+#[tactic(auto, using(crate::proofs::Getting::heard))]
 fn report_last<L: Listener, A: Allocator>(
     connections: &mut Connections<A>,
     delivered: Delivery,
@@ -253,29 +205,24 @@ fn report_last<L: Listener, A: Allocator>(
 {
     match delivered.step {
         StreamStep::Held { .. } => report_held(connections, delivered, listener),
-        StreamStep::Payload { .. } => hear(
-            &ConnectionEvent::Of {
-                delivered,
-                bytes: &[],
-            },
-            listener,
-        ),
+        StreamStep::Payload { .. } => listener.hear(&ConnectionEvent::Of {
+            delivered,
+            bytes: &[],
+        }),
         StreamStep::Began { .. }
         | StreamStep::Gap { .. }
         | StreamStep::Kept
         | StreamStep::Ended
         | StreamStep::Reset
-        | StreamStep::Done => hear(
-            &ConnectionEvent::Of {
-                delivered,
-                bytes: &[],
-            },
-            listener,
-        ),
+        | StreamStep::Done => listener.hear(&ConnectionEvent::Of {
+            delivered,
+            bytes: &[],
+        }),
     }
 }
 
 /// Reports the next bytes that the connection held.
+#[tactic(auto, using(crate::proofs::Getting::heard))]
 fn report_held<L: Listener, A: Allocator>(
     connections: &mut Connections<A>,
     delivered: Delivery,
@@ -285,7 +232,7 @@ fn report_held<L: Listener, A: Allocator>(
         × HandsHeld delivered.way connections.old bytes connections.new × GetsOne L.Listener listener.old (Of delivered bytes) result listener.new }
 {
     let bytes = connections.held(delivered.way);
-    let answer = hear(&ConnectionEvent::Of { delivered, bytes }, listener);
+    let answer = listener.hear(&ConnectionEvent::Of { delivered, bytes });
     connections.pass_held(delivered.way);
     answer
 }

@@ -6,10 +6,11 @@ ghost use Rattle.cqlp_tcp_segment.specs.Segment.{seen};
 ghost use Rattle.cqlp_packet_order.specs.Packets.{packet_in, packet_of};
 ghost use Rattle.cqlp_capture_streams.specs.Packets.{segment_in};
 
+use crate::connection_event::ConnectionEvent;
 use crate::fault::StreamsFault;
 use crate::listener::Listener;
 use crate::packets::PacketCounts;
-use crate::reporting::{finish_all, take_timed};
+use crate::reporting::{finish_all, take_segment};
 use cqlp_capture::{CaptureEvent, PacketHead};
 use cqlp_packet_order::{KeptPacket, OrderCounts, Packet, PacketOrder};
 use cqlp_tcp_connections::{ConnectionCounts, Connections};
@@ -198,7 +199,7 @@ impl<A: Allocator + Clone> Splitter<A> {
         answer
     }
 
-    /// Takes a packet whose turn has come.
+    /// Takes a packet whose turn has come. If it has a segment, reports that one comes, and then what it delivers.
     fn take_packet<L: Listener>(
         &mut self,
         packet: &Packet<'_>,
@@ -212,7 +213,9 @@ impl<A: Allocator + Clone> Splitter<A> {
             Ok(segment) => {
                 let is_snapped = self.is_snapped(&segment);
                 self.counts.count_segment(is_snapped);
-                take_timed(packet.time, &mut self.connections, &segment, listener)
+                let time = packet.time;
+                listener.hear(&ConnectionEvent::Packet { time })?;
+                take_segment(time, &mut self.connections, &segment, listener)
             }
             Err(why) => {
                 self.counts.count_without(why);

@@ -10,42 +10,29 @@ use crate::cqlp_tcp_reassembly::StreamStep;
 use crate::cqlp_tcp_segment::Segment;
 use crate::kit_std::alloc::{AllocError, Allocator};
 
-/// Gives a listener an event.
-fn hear<L: Listener>(event: &ConnectionEvent<'_>, listener: &mut L) -> Result<(), StreamsFault> {
-    listener.hear(event)
-}
-
-/// Reports that a packet with a segment comes that was captured at this time, and then what the segment delivers.
-#[inline]
-pub(crate) fn take_timed<L: Listener, A: Allocator + Clone>(
-    time: Option<u64>,
-    connections: &mut Connections<A>,
-    segment: &Segment<'_>,
-    listener: &mut L,
-) -> Result<(), StreamsFault> {
-    hear(&ConnectionEvent::Packet { time }, listener)?;
-    take_segment(time, connections, segment, listener)
-}
-
 /// Has the connection of a segment take it, where need be after another one has left, and reports what that delivers.
 #[inline]
-fn take_segment<L: Listener, A: Allocator + Clone>(
+pub(crate) fn take_segment<L: Listener, A: Allocator + Clone>(
     time: Option<u64>,
     connections: &mut Connections<A>,
     segment: &Segment<'_>,
     listener: &mut L,
 ) -> Result<(), StreamsFault> {
-    let Ok(admission) = connections.take(&segment.head) else {
-        return Err(StreamsFault::NoMemory);
-    };
-    let Admission::Crowded { .. } = admission else {
-        return take_seen(admission, time, connections, segment, listener);
-    };
-    leave(connections, listener)?;
-    take_again(time, connections, segment, listener)
+    match connections.take(&segment.head) {
+        Ok(Admission::Foreign) => Ok(()),
+        Ok(Admission::Taken { number, is_new, .. }) => {
+            begin(is_new, number, listener)?;
+            pull_all(time, connections, segment, listener)
+        }
+        Ok(Admission::Crowded { .. }) => {
+            leave(connections, listener)?;
+            take_again(time, connections, segment, listener)
+        }
+        Err(AllocError) => Err(StreamsFault::NoMemory),
+    }
 }
 
-/// Has the connection of a segment take it after another one has left for it.
+/// Has the connection of a segment take it after another one has left for it. For one segment one connection leaves at most.
 #[cold]
 fn take_again<L: Listener, A: Allocator + Clone>(
     time: Option<u64>,
@@ -54,41 +41,27 @@ fn take_again<L: Listener, A: Allocator + Clone>(
     listener: &mut L,
 ) -> Result<(), StreamsFault> {
     match connections.take(&segment.head) {
-        Ok(admission) => take_seen(admission, time, connections, segment, listener),
-        Err(AllocError) => Err(StreamsFault::NoMemory),
-    }
-}
-
-/// Reports what a segment delivers that was admitted so. For one segment one connection leaves at most, which makes room for it.
-#[inline(always)]
-fn take_seen<L: Listener, A: Allocator + Clone>(
-    admission: Admission,
-    time: Option<u64>,
-    connections: &mut Connections<A>,
-    segment: &Segment<'_>,
-    listener: &mut L,
-) -> Result<(), StreamsFault> {
-    match admission {
-        Admission::Foreign => Ok(()),
-        Admission::Taken { number, is_new, .. } => {
+        Ok(Admission::Taken { number, is_new, .. }) => {
             begin(is_new, number, listener)?;
-            report_taken(time, connections, segment, listener)
+            pull_all(time, connections, segment, listener)
         }
-        Admission::Crowded { .. } => Ok(()),
+        Ok(Admission::Foreign) => Ok(()),
+        Ok(Admission::Crowded { .. }) => Ok(()),
+        Err(AllocError) => Err(StreamsFault::NoMemory),
     }
 }
 
 /// Reports that a connection begins, if it does.
 fn begin<L: Listener>(is_new: bool, number: u64, listener: &mut L) -> Result<(), StreamsFault> {
     if is_new {
-        hear(&ConnectionEvent::New { number }, listener)
+        listener.hear(&ConnectionEvent::New { number })
     } else {
         Ok(())
     }
 }
 
 /// Reports all that a segment delivers which was taken. One without payload, as an acknowledgement, mostly delivers nothing.
-fn report_taken<L: Listener, A: Allocator + Clone>(
+fn pull_all<L: Listener, A: Allocator + Clone>(
     time: Option<u64>,
     connections: &mut Connections<A>,
     segment: &Segment<'_>,
@@ -97,16 +70,6 @@ fn report_taken<L: Listener, A: Allocator + Clone>(
     if segment.payload.is_empty() && connections.is_done(segment, time) {
         return Ok(());
     }
-    pull_all(time, connections, segment, listener)
-}
-
-/// The same, whatever it has.
-fn pull_all<L: Listener, A: Allocator + Clone>(
-    time: Option<u64>,
-    connections: &mut Connections<A>,
-    segment: &Segment<'_>,
-    listener: &mut L,
-) -> Result<(), StreamsFault> {
     for turn in 0..u64::MAX {
         let Ok(next) = connections.pull(segment, time) else {
             return Err(StreamsFault::NoMemory);
@@ -131,7 +94,7 @@ fn leave<L: Listener, A: Allocator>(
     for turn in 0..u64::MAX {
         match connections.leave() {
             Departure::Delivery(delivered) => report_last(connections, delivered, listener)?,
-            Departure::Left(totals) => return hear(&ConnectionEvent::Left(totals), listener),
+            Departure::Left(totals) => return listener.hear(&ConnectionEvent::Left(totals)),
             Departure::Empty => return Ok(()),
         }
     }
@@ -163,7 +126,7 @@ fn finish_one<L: Listener, A: Allocator>(
             Ok(false)
         }
         Departure::Left(totals) => {
-            hear(&ConnectionEvent::Left(totals), listener)?;
+            listener.hear(&ConnectionEvent::Left(totals))?;
             Ok(false)
         }
         Departure::Empty => Ok(true),
@@ -180,7 +143,7 @@ fn report<L: Listener, A: Allocator>(
     match delivered.step {
         StreamStep::Payload { from, count } => {
             let bytes = &payload[from..from + count];
-            hear(&ConnectionEvent::Of { delivered, bytes }, listener)
+            listener.hear(&ConnectionEvent::Of { delivered, bytes })
         }
         StreamStep::Held { .. } => report_held(connections, delivered, listener),
         StreamStep::Began { .. }
@@ -188,13 +151,10 @@ fn report<L: Listener, A: Allocator>(
         | StreamStep::Kept
         | StreamStep::Ended
         | StreamStep::Reset
-        | StreamStep::Done => hear(
-            &ConnectionEvent::Of {
-                delivered,
-                bytes: &[],
-            },
-            listener,
-        ),
+        | StreamStep::Done => listener.hear(&ConnectionEvent::Of {
+            delivered,
+            bytes: &[],
+        }),
     }
 }
 
@@ -206,25 +166,19 @@ fn report_last<L: Listener, A: Allocator>(
 ) -> Result<(), StreamsFault> {
     match delivered.step {
         StreamStep::Held { .. } => report_held(connections, delivered, listener),
-        StreamStep::Payload { .. } => hear(
-            &ConnectionEvent::Of {
-                delivered,
-                bytes: &[],
-            },
-            listener,
-        ),
+        StreamStep::Payload { .. } => listener.hear(&ConnectionEvent::Of {
+            delivered,
+            bytes: &[],
+        }),
         StreamStep::Began { .. }
         | StreamStep::Gap { .. }
         | StreamStep::Kept
         | StreamStep::Ended
         | StreamStep::Reset
-        | StreamStep::Done => hear(
-            &ConnectionEvent::Of {
-                delivered,
-                bytes: &[],
-            },
-            listener,
-        ),
+        | StreamStep::Done => listener.hear(&ConnectionEvent::Of {
+            delivered,
+            bytes: &[],
+        }),
     }
 }
 
@@ -235,7 +189,7 @@ fn report_held<L: Listener, A: Allocator>(
     listener: &mut L,
 ) -> Result<(), StreamsFault> {
     let bytes = connections.held(delivered.way);
-    let answer = hear(&ConnectionEvent::Of { delivered, bytes }, listener);
+    let answer = listener.hear(&ConnectionEvent::Of { delivered, bytes });
     connections.pass_held(delivered.way);
     answer
 }

@@ -2,10 +2,11 @@
 //! The packets of a capture, on their way to connections.
 
 use crate::kit_host::prelude::{Clone};
+use crate::cqlp_capture_streams::connection_event::ConnectionEvent;
 use crate::cqlp_capture_streams::fault::StreamsFault;
 use crate::cqlp_capture_streams::listener::Listener;
 use crate::cqlp_capture_streams::packets::PacketCounts;
-use crate::cqlp_capture_streams::reporting::{finish_all, take_timed};
+use crate::cqlp_capture_streams::reporting::{finish_all, take_segment};
 use crate::cqlp_capture::{CaptureEvent, PacketHead};
 use crate::cqlp_packet_order::{KeptPacket, OrderCounts, Packet, PacketOrder};
 use crate::cqlp_tcp_connections::{ConnectionCounts, Connections};
@@ -145,7 +146,7 @@ impl<A: Allocator + Clone> Splitter<A> {
         answer
     }
 
-    /// Takes a packet whose turn has come.
+    /// Takes a packet whose turn has come. If it has a segment, reports that one comes, and then what it delivers.
     fn take_packet<L: Listener>(
         &mut self,
         packet: &Packet<'_>,
@@ -155,7 +156,9 @@ impl<A: Allocator + Clone> Splitter<A> {
             Ok(segment) => {
                 let is_snapped = self.is_snapped(&segment);
                 self.counts.count_segment(is_snapped);
-                take_timed(packet.time, &mut self.connections, &segment, listener)
+                let time = packet.time;
+                listener.hear(&ConnectionEvent::Packet { time })?;
+                take_segment(time, &mut self.connections, &segment, listener)
             }
             Err(why) => {
                 self.counts.count_without(why);

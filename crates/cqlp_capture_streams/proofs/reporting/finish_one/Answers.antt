@@ -8,4 +8,4 @@ returns-in_ok-report_last-in-Delivery g c = λ reports.
 
 pub returns-in_ok-hear-in-Left : goal.returns-in_ok-hear-in-Left
 returns-in_ok-hear-in-Left g c = λ reports.
-    (Left c.in-Left.totals, c.in-Left.ensures, c.in_ok-hear-in-Left.ensures reports)
+    (Left c.in-Left.totals, c.in-Left.ensures, c.in_ok-hear-in-Left.ensures.ok reports)

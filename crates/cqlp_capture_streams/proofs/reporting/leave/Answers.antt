@@ -3,7 +3,7 @@ use Rattle.cqlp_tcp_connections.specs.Tables.{left}
 use Rattle.cqlp_capture_streams.specs.ConnectionEvents.{Of, Left}
 use Rattle.cqlp_capture_streams.specs.Reportings.{StillReports}
 use Rattle.cqlp_capture_streams.proofs.Paths.{path_more}
-use Rattle.cqlp_capture_streams.proofs.Getting.{gets_more, one_longer}
+use Rattle.cqlp_capture_streams.proofs.Getting.{gets_more, heard, one_longer}
 use Rattle.cqlp_capture_streams.proofs.Delivery.{parted, parted_none}
 use Rattle.cqlp_capture_streams.proofs.reporting.leave.Goals as goal
 
@@ -35,7 +35,7 @@ returns-in-Left g c = λ reports.
     let before = c.loop-turn.invariant reports in (
       before.0 ++ Left c.in-Left.totals ∷ [],
       parted _ _ c.loop-turn.connections _ before.0 c.in-Left.totals before.1 c.in-Left.ensures,
-      gets_more g.L.Listener c.args.listener.now c.loop-turn.listener _ before.0 (Left c.in-Left.totals) _ before.3 (c.hear.ensures before.2),
+      gets_more g.L.Listener c.args.listener.now c.loop-turn.listener _ before.0 (Left c.in-Left.totals) _ before.3 (heard g.L.Listener c.loop-turn.listener _ (Left c.in-Left.totals) c.hear.result c.hear.ensures.ok c.hear.ensures.err before.2),
     )
 
 pub returns-in-Empty : goal.returns-in-Empty

@@ -43,8 +43,8 @@ returns g c = λ reports.
     let all : c.loop-turn.turn ≡ 2 ^ 64 - 1 = omega arith in
     (before.0, inl before.1, inl (refl, omega (arith, before.4), before.3))
 
-pub returns-then-is_done : goal.returns-then-is_done
-returns-then-is_done g c = λ reports.
+pub returns-then-is_done-2 : goal.returns-then-is_done-2
+returns-then-is_done-2 g c = λ reports.
     let before = c.loop-turn.invariant reports in
     let t = c.in_ok-report.ensures before.2 in
     let pull = subst (λ (z : Option Delivery). pulling z c.pull.new.self ≡ pulled (seen c.args.segment.now) c.args.time c.loop-turn.connections) c.in-Some.is c.in-Ok.ensures.delivered in
@@ -53,7 +53,7 @@ returns-then-is_done g c = λ reports.
       (
         c.report.new.connections,
         path_more (Pulls (seen c.args.segment.now) c.args.time) _ c.loop-turn.connections _ before.0 (Of c.in-Some.delivered t.0) before.1 (c.pull.new.self, pull, t.1),
-        sym (c.is_done.ensures c.if-is_done.true),
+        sym (c.is_done-then-is_payload.ensures c.if-is_done-2.true),
       ),
       all,
     )
