@@ -149,7 +149,8 @@ fn stream<R: Files + AllocGlobal, I: Source, O: Target, E: Target>(
     }
 }
 
-/// Opens a capture, and does the task with it.
+/// Opens a capture, and does the task with it. Of a regular file lines are written in blocks; of standard input and any other file, as a pipe, at
+/// once. Where a file is long, `notes` gets how much of it was read.
 fn capture<R: Files + AllocGlobal, I: Source, O: Target, E: Target, N: Target + Drop>(
     rt: &R,
     options: CaptureOptions<'_>,
@@ -174,12 +175,17 @@ fn capture<R: Files + AllocGlobal, I: Source, O: Target, E: Target, N: Target + 
     if options.file == "-" {
         return read_capture(rt, &options, Buffering::Line, input, out, err);
     }
-    match File::open(rt, options.file) {
-        Ok(file) => read_file(rt, &options, file, notes.take(), out, err),
-        Err(_) => {
-            let (status, err) = cannot_open(options.file, err);
-            (status, out, err)
+    let Ok(file) = File::open(rt, options.file) else {
+        let (status, err) = cannot_open(options.file, err);
+        return (status, out, err);
+    };
+    let buffering = buffering_for(&file);
+    match (notes.take(), long_length(&file)) {
+        (Some(notes), Some(length)) => {
+            let mut input = Progress::new(OfStd::new(file), length, notes);
+            read_capture(rt, &options, buffering, &mut input, out, err)
         }
+        _ => { read_capture(rt, &options, buffering, &mut OfStd::new(file), out, err) }
     }
 }
 
@@ -193,30 +199,6 @@ fn missing_folder<'a, R: Files>(rt: &R, asked: CaptureTask<'a>) -> Option<&'a st
         | CaptureTask::Exchanges(_)
         | CaptureTask::Events { .. }
         | CaptureTask::Rows { .. } => None,
-    }
-}
-
-/// Does the task with a capture in a file. Of a regular file lines are written in blocks; of any other, as a pipe, at once. Where the file is long,
-/// `notes` gets how much of it was read.
-fn read_file<R: Files + AllocGlobal, O: Target, E: Target, N: Target + Drop>(
-    rt: &R,
-    options: &CaptureOptions<'_>,
-    file: R::File,
-    notes: Option<N>,
-    out: O,
-    err: E,
-) -> (u8, O, E)
-    requires ports { AreWithin options.now.ports }
-    requires limits { AreWithinRanges options.now.limits }
-    ensures status { IsStatusOfTask result.0 }
-{
-    let buffering = buffering_for(&file);
-    match (notes, long_length(&file)) {
-        (Some(notes), Some(length)) => {
-            let mut input = Progress::new(OfStd::new(file), length, notes);
-            read_capture(rt, options, buffering, &mut input, out, err)
-        }
-        _ => { read_capture(rt, options, buffering, &mut OfStd::new(file), out, err) }
     }
 }
 
