@@ -1,18 +1,21 @@
 -- What is known after an event of a connection.
 use Rattle.std.proofs.Common.{◌≡◌, ◌∙◌, ◌++◌, [], ℕ, IsSome, List, Option, Some, None, OnOk, Result, Ok, Err, ap, append-nil, sym, subst, refl}
+use Rattle.std.proofs.lemmas.Bool.{eq-eqb}
 use Rattle.std.specs.Io.KnownBytes.{append_known}
 use Rattle.cqlp_text.specs.Outputs.{output, with_text}
 use Rattle.cqlp_text.specs.Written.{Receives, Written}
+use Rattle.cqlp_tcp_connections.specs.declared.delivery.Delivery.{Delivery}
+use Rattle.cqlp_tcp_connections.specs.declared.ends.Way.{Way}
 use Rattle.cqlp_capture_prepared.specs.declared.requests.Requests.{Requests}
 use Rattle.cqlp_capture_streams.specs.declared.fault.StreamsFault.{StreamsFault}
-use Rattle.cqlp_capture_streams.specs.ConnectionEvents.{ConnectionEvent}
+use Rattle.cqlp_capture_streams.specs.ConnectionEvents.{ConnectionEvent, Of}
 use Rattle.cqlp_capture_frames.specs.declared.fault.ReportFault.{ReportFault}
-use Rattle.cqlp_capture_frames.specs.declared.fault.ReportFault.TheVariants as fault
-use Rattle.cqlp_capture_frames.specs.Directions.{Direction}
+use Rattle.cqlp_capture_frames.specs.declared.fault.ReportFault.TheVariants as why
+use Rattle.cqlp_capture_frames.specs.Directions.{Direction, IsReported, Reporting}
 use Rattle.cqlp_capture_frames.specs.Faults.{Takes}
 use Rattle.cqlp_capture_frames.specs.Reportings.{is_memory}
 use Rattle.cqlp_capture_rows.specs.Responses.{Responses}
-use Rattle.cqlp_capture_rows.specs.Listening.{Change, Hears, Listening, Reports, change_of, listening, with_connection_event}
+use Rattle.cqlp_capture_rows.specs.Listening.{Change, Changes, Hears, Listening, answer_of, change_of, heard, heard_of, hears_responses, if_asked, listening, with_connection_event}
 
 -- it is still known what the output was given
 still_known : (given : Option (List ℕ)) (text : List ℕ) → IsSome given → IsSome (append_known given text)
@@ -41,23 +44,42 @@ passed_on w v text none none' known takes =
     let given : v.given ≡ append_known w.given text = p.1 ∙ ap (λ (z : List ℕ). Some (t.0 ++ z)) all ∙ sym (ap (λ (g : Option (List ℕ)). append_known g text) t.1) in
     λ i. output (given i) (takes.failures i)
 
-pub reports_change : (asked : ℕ) (requests requests' : Requests) (direction direction' : Direction) (old new : Responses) (w v : Written) (x : Change) (r : Result (Unit {0}) ReportFault) → w.waiting ≡ [] → v.waiting ≡ [] → IsSome w.given → Takes is_memory w x.text r v → OnOk r (requests' ≡ x.requests) → OnOk r (direction' ≡ x.direction) → OnOk r (new ≡ x.responses)
-    → Reports (listening asked requests direction old (output w.given w.failures)) x r (listening asked requests' direction' new (output v.given v.failures))
-reports_change asked requests requests' direction direction' old new w v x (Ok u) none none' known takes same there after = λ i. listening asked (same i) (there i) (after i) (passed_on w v x.text none none' known takes i)
-reports_change asked requests requests' direction direction' old new w v x (Err fault.Write) none none' known breaks same there after =
-    let text = x.text in
-    let t = known_at w.given known in
-    let p = breaks.passed t.0 t.1 in
+-- the text that was put
+pub taken : {S : Type 0} (t : Reporting S) (put : Result (Unit {0}) ReportFault) (w v : Written) (d : Direction) (known : S) → IsReported is_memory t put w v d known → Takes is_memory w t.text put v
+taken t (Ok u) w v d known a = a.0
+taken t (Err e) w v d known a = a
+
+pub changes_so : (asked : ℕ) (requests : Requests) (direction direction' : Direction) (old new : Responses) (w mid v : Written) (t : Reporting Responses) (put r : Result (Unit {0}) ReportFault) → w.waiting ≡ [] → IsSome w.given → IsReported is_memory t put w mid direction' new → ((before : Written) (text : List ℕ) → Takes is_memory before text put mid → Takes is_memory before text r v) → ((before : Written) (text : List ℕ) → Takes is_memory before text put mid → v.waiting ≡ []) → OnOk r (put ≡ Ok tt)
+    → Changes (listening asked requests direction old (output w.given w.failures)) (hears_responses requests t) (answer_of r) (listening asked requests direction' new (output v.given v.failures))
+changes_so asked requests direction direction' old new w mid v t put (Ok u) none known reported on empty ok =
+    let takes = taken t put w mid direction' new reported in
+    let all = subst (λ (z : Result (Unit {0}) ReportFault). IsReported is_memory t z w mid direction' new) ok reported in
+    let text = passed_on w v t.text none (empty w t.text takes) known (on w t.text takes) in
+    λ i. listening asked requests (all.1 i) (all.2 i) (text i)
+changes_so asked requests direction direction' old new w mid v t put (Err why.Write) none known reported on empty ok =
+    let takes = taken t put w mid direction' new reported in
+    let breaks = on w t.text takes in
+    let at = known_at w.given known in
+    let p = breaks.passed at.0 at.1 in
     record {
       sent = p.0;
       lost = breaks.lost;
       later = breaks.later;
-      split = p.2 ∙ ap (λ (z : List ℕ). z ++ text) none;
-      given = p.1 ∙ sym (ap (λ (g : Option (List ℕ)). append_known g p.0) t.1);
+      split = p.2 ∙ ap (λ (z : List ℕ). z ++ t.text) none;
+      given = p.1 ∙ sym (ap (λ (g : Option (List ℕ)). append_known g p.0) at.1);
       failures = breaks.failures;
     }
-reports_change asked requests requests' direction direction' old new w v x (Err fault.NoMemory) none none' known (front, later, split, takes) same there after = (front, later, split, passed_on w v front none none' known takes)
+changes_so asked requests direction direction' old new w mid v t put (Err why.NoMemory) none known reported on empty ok =
+    let takes = taken t put w mid direction' new reported in
+    let front = on w t.text takes in
+    (front.0, front.1, front.2, passed_on w v front.0 none (empty w t.text takes) known front.3)
 
-pub on_ok : (r : Result (Unit {0}) ReportFault) (x : Requests) → OnOk r (x ≡ x)
-on_ok (Ok u) x = refl
-on_ok (Err e) x = tt
+-- of the connection that is asked for
+pub change_asked : (old new : Listening) (number : ℕ) (x : Change) (r : Result (Unit {0}) StreamsFault) → number ≡ old.asked → Changes old x r new → Changes old (if_asked number x old) r new
+change_asked old new number x r is a = rw (eq-eqb number old.asked is) a
+
+-- ---- what a direction delivers
+
+pub hears_of : (old new : Listening) (t : Delivery) (b : List ℕ) (way : Way) (r : Result (Unit {0}) StreamsFault) → t.number ≡ old.asked → t.way ≡ way → Changes old (heard_of way t b old.requests old.direction old.responses) r new → Hears old (Of t b) r new
+hears_of old new t b way r number is a =
+    change_asked old new t.number (heard t b old.requests old.direction old.responses) r number (subst (λ (w : Way). Changes old (heard_of w t b old.requests old.direction old.responses) r new) (sym is) a)

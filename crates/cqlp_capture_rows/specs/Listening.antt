@@ -11,8 +11,9 @@ use Rattle.cqlp_capture_prepared.specs.declared.requests.Requests.{Requests}
 use Rattle.cqlp_capture_prepared.specs.Keeping.{new_keeping}
 use Rattle.cqlp_capture_prepared.specs.Requests.{Asked, asked, silent, step_asked}
 use Rattle.cqlp_capture_frames.specs.declared.fault.ReportFault.{ReportFault}
+use Rattle.cqlp_capture_frames.specs.declared.fault.ReportFault.TheVariants as why
 use Rattle.cqlp_capture_rows.specs.declared.limits.TheConstants.{EXECUTES, STATEMENTS}
-use Rattle.cqlp_capture_frames.specs.Reportings.{Faults, WritesFront}
+use Rattle.cqlp_capture_frames.specs.Reportings.{WritesFront}
 use Rattle.cqlp_capture_frames.specs.Directions.{Direction, Reporting, begun, closes, step_reported}
 use Rattle.cqlp_capture_rows.specs.Responses.{Responses, new_responses, page_manner, rules, with_known}
 
@@ -96,7 +97,9 @@ Changes old x (Err e) new = Breaks old x e new
 abbrev pub Hears : Listening → ConnectionEvent → Result (Unit {0}) StreamsFault → Listening → Type 0
 Hears old s r new = Changes old (change_of s old) r new
 
--- the same of the faults that there are
-abbrev pub Reports : Listening → Change → Result (Unit {0}) ReportFault → Listening → Type 0
-Reports old x (Ok u) new = new ≡ after_change x old
-Reports old x (Err e) new = Faults old.output x.text e new.output
+-- ---- what it answers where its text was put so
+
+abbrev pub answer_of : Result (Unit {0}) ReportFault → Result (Unit {0}) StreamsFault
+answer_of (Ok u) = Ok u
+answer_of (Err why.Write) = Err fault.Write
+answer_of (Err why.NoMemory) = Err fault.NoMemory

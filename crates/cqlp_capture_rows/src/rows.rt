@@ -1,13 +1,14 @@
 //! What listens to one connection of a capture.
 
-ghost use Rattle.std.specs.Prelude.{◌≡◌, ◌≤◌, true, false, [], IfErr, IfOk, IsSome, OnOk, vec_len};
+ghost use Rattle.std.specs.Prelude.{◌≡◌, ◌≤◌, ℕ, true, false, List, [], IfErr, IfOk, IsSome, Ok, OnOk, vec_len};
 ghost use Rattle.cqlp_text.specs.Outputs.{written};
+ghost use Rattle.cqlp_text.specs.Written.{Written};
 ghost use Rattle.cqlp_capture_prepared.specs.Keeping.{new_keeping};
-ghost use Rattle.cqlp_capture_frames.specs.Directions.{begun, closes};
+ghost use Rattle.cqlp_capture_frames.specs.Directions.{begun};
 ghost use Rattle.cqlp_capture_frames.specs.Faults.{Takes};
 ghost use Rattle.cqlp_capture_frames.specs.Reportings.{is_memory};
-ghost use Rattle.cqlp_capture_rows.specs.Responses.{new_responses, page_manner, rules};
-ghost use Rattle.cqlp_capture_rows.specs.Listening.{heard, leaves};
+ghost use Rattle.cqlp_capture_rows.specs.Responses.{new_responses, rules};
+ghost use Rattle.cqlp_capture_rows.specs.Listening.{answer_of};
 
 use crate::limits::{EXECUTES, LIMITS, STATEMENTS};
 use crate::responses::Responses;
@@ -16,7 +17,7 @@ use cqlp_capture_prepared::Requests;
 use cqlp_capture_streams::{ConnectionEvent, Listener, StreamsFault};
 use cqlp_note::Target;
 use cqlp_tcp_connections::{Delivery, Way};
-use cqlp_text::{Buffered, Pen, TextWriter};
+use cqlp_text::{Buffered, TextWriter};
 use std::alloc::{AllocError, Allocator, Global};
 use std::marker::Model;
 
@@ -68,8 +69,8 @@ impl<O: Target, A: Allocator> Rows<O, A> {
 }
 
 impl<O: Target, A: Allocator + Clone> Rows<O, A> {
-    ghost use Rattle.cqlp_capture_streams.specs.ConnectionEvents.{Of, connection_event_of};
-    ghost use Rattle.cqlp_capture_rows.specs.Listening.{Changes, Hears, Reports, if_asked, new_listening};
+    ghost use Rattle.cqlp_capture_streams.specs.ConnectionEvents.{Of};
+    ghost use Rattle.cqlp_capture_rows.specs.Listening.{Changes, Hears, if_asked, leaves, new_listening};
 
     /// Nothing came of the connection with this number, and its pages go to this output. Memory for all but types and frames is taken here; where it
     /// is not granted, the output is given back.
@@ -89,30 +90,34 @@ impl<O: Target, A: Allocator + Clone> Rows<O, A> {
         }
     }
 
-    /// Takes the next event of the connections.
-    fn take(&mut self, event: &ConnectionEvent<'_>) -> Result<(), StreamsFault>
-        ensures { IsSome self.old.output.given → Hears self.old (connection_event_of event.now) result self.new }
-    {
-        match event {
-            ConnectionEvent::Packet { .. } | ConnectionEvent::New { .. } => Ok(()),
-            ConnectionEvent::Of { delivered, bytes } => self.hear_delivery(delivered, bytes),
-            ConnectionEvent::Left(totals) => self.hear_left(totals.number),
-        }
-    }
-
+    /// Takes what a direction delivers: of the requests what is known of statements, of the responses their text.
     fn hear_delivery(&mut self, delivered: &Delivery, bytes: &[u8]) -> Result<(), StreamsFault>
         ensures { IsSome self.old.output.given → Hears self.old (Of delivered.now bytes.now) result self.new }
     {
         if delivered.number != self.asked {
             return Ok(());
         }
-        match self.report(delivered, bytes) {
-            Ok(()) => Ok(()),
-            Err(ReportFault::Write) => Err(StreamsFault::Write),
-            Err(ReportFault::NoMemory) => Err(StreamsFault::NoMemory),
+        match delivered.way {
+            Way::Requests => {
+                self.responses
+                    .hear_requests(delivered.step, bytes, &mut self.requests);
+                Ok(())
+            }
+            Way::Responses => {
+                let put = self.direction.hear(
+                    true,
+                    delivered.step,
+                    delivered.at,
+                    bytes,
+                    &mut self.responses,
+                    &mut self.writer,
+                );
+                answer_of(pass_on(put, &mut self.writer))
+            }
         }
     }
 
+    /// Takes the end of a connection.
     fn hear_left(&mut self, number: u64) -> Result<(), StreamsFault>
         ensures { IsSome self.old.output.given
             → Changes self.old (if_asked number (leaves self.old.requests self.old.direction self.old.responses) self.old) result self.new }
@@ -120,53 +125,22 @@ impl<O: Target, A: Allocator + Clone> Rows<O, A> {
         if number != self.asked {
             return Ok(());
         }
-        match self.leave() {
-            Ok(()) => Ok(()),
-            Err(ReportFault::Write) => Err(StreamsFault::Write),
-            Err(ReportFault::NoMemory) => Err(StreamsFault::NoMemory),
-        }
-    }
-
-    /// Writes the text of an event of the connection.
-    fn report(&mut self, delivered: &Delivery, bytes: &[u8]) -> Result<(), ReportFault>
-        ensures { IsSome self.old.output.given
-            → Reports self.old (heard delivered.now bytes.now self.old.requests self.old.direction self.old.responses) result self.new }
-    {
-        put_delivery(
-            &mut self.requests,
-            &mut self.direction,
-            &mut self.responses,
-            delivered,
-            bytes,
-            &mut self.writer,
-        )
-    }
-
-    /// Writes the text of its end.
-    fn leave(&mut self) -> Result<(), ReportFault>
-        ensures { IsSome self.old.output.given → Reports self.old (leaves self.old.requests self.old.direction self.old.responses) result self.new }
-    {
-        put_left(&mut self.direction, &mut self.responses, &mut self.writer)
+        let put = self.direction.close(&mut self.responses, &mut self.writer);
+        answer_of(pass_on(put, &mut self.writer))
     }
 }
 
-/// Takes the text of an event, and passes it on, also where memory was refused.
+/// Passes on the text that was put, also where memory was refused.
 #[tactic(auto, using(cqlp_capture_frames::proofs::Reportings::passing_fails, cqlp_capture_frames::proofs::Reportings::passing_front_fails))]
-fn put_delivery<W: Target, A: Allocator + Clone, B: Allocator>(
-    requests: &mut Requests,
-    direction: &mut Direction<A>,
-    responses: &mut Responses<A>,
-    delivered: &Delivery,
-    bytes: &[u8],
-    writer: &mut TextWriter<Buffered<W, B>>,
+fn pass_on<W: Target, A: Allocator>(
+    put: Result<(), ReportFault>,
+    writer: &mut TextWriter<Buffered<W, A>>,
 ) -> Result<(), ReportFault>
-    ensures text { Takes is_memory writer.old (heard delivered.now bytes.now requests.old direction.old responses.old).text result writer.new }
-    ensures passed { writer.new.waiting ≡ [] }
-    ensures requests { OnOk result (requests.new ≡ (heard delivered.now bytes.now requests.old direction.old responses.old).requests) }
-    ensures direction { OnOk result (direction.new ≡ (heard delivered.now bytes.now requests.old direction.old responses.old).direction) }
-    ensures responses { OnOk result (responses.new ≡ (heard delivered.now bytes.now requests.old direction.old responses.old).responses) }
+    ensures text { (before : Written) (text : List ℕ) → Takes is_memory before text put writer.old → Takes is_memory before text result writer.new }
+    ensures passed { (before : Written) (text : List ℕ) → Takes is_memory before text put writer.old → writer.new.waiting ≡ [] }
+    ensures ok { OnOk result (put ≡ Ok tt) }
 {
-    match put_heard(requests, direction, responses, delivered, bytes, writer) {
+    match put {
         Ok(()) => Ok(writer.pass_on()?),
         Err(ReportFault::Write) => Err(ReportFault::Write),
         Err(ReportFault::NoMemory) => {
@@ -176,50 +150,14 @@ fn put_delivery<W: Target, A: Allocator + Clone, B: Allocator>(
     }
 }
 
-/// Takes the text of an event.
-fn put_heard<P: Pen, A: Allocator + Clone>(
-    requests: &mut Requests,
-    direction: &mut Direction<A>,
-    responses: &mut Responses<A>,
-    delivered: &Delivery,
-    bytes: &[u8],
-    writer: &mut TextWriter<P>,
-) -> Result<(), ReportFault>
-    ensures text { Takes is_memory writer.old (heard delivered.now bytes.now requests.old direction.old responses.old).text result writer.new }
-    ensures requests { OnOk result (requests.new ≡ (heard delivered.now bytes.now requests.old direction.old responses.old).requests) }
-    ensures direction { OnOk result (direction.new ≡ (heard delivered.now bytes.now requests.old direction.old responses.old).direction) }
-    ensures responses { OnOk result (responses.new ≡ (heard delivered.now bytes.now requests.old direction.old responses.old).responses) }
+/// What a listener answers where the text of an event was put so.
+fn answer_of(put: Result<(), ReportFault>) -> Result<(), StreamsFault>
+    ensures { result ≡ answer_of put }
 {
-    match delivered.way {
-        Way::Requests => {
-            responses.hear_requests(delivered.step, bytes, requests);
-            Ok(())
-        }
-        Way::Responses => {
-            direction.hear(true, delivered.step, delivered.at, bytes, responses, writer)
-        }
-    }
-}
-
-/// Takes the text of the end of a connection, and passes it on.
-#[tactic(auto, using(cqlp_capture_frames::proofs::Reportings::passing_fails, cqlp_capture_frames::proofs::Reportings::passing_front_fails))]
-fn put_left<W: Target, A: Allocator + Clone, B: Allocator>(
-    direction: &mut Direction<A>,
-    responses: &mut Responses<A>,
-    writer: &mut TextWriter<Buffered<W, B>>,
-) -> Result<(), ReportFault>
-    ensures text { Takes is_memory writer.old (closes page_manner direction.old.frame responses.old direction.old).text result writer.new }
-    ensures passed { writer.new.waiting ≡ [] }
-    ensures direction { OnOk result (direction.new ≡ (closes page_manner direction.old.frame responses.old direction.old).after) }
-    ensures responses { OnOk result (responses.new ≡ (closes page_manner direction.old.frame responses.old direction.old).known) }
-{
-    match direction.close(responses, writer) {
-        Ok(()) => Ok(writer.pass_on()?),
-        Err(ReportFault::Write) => Err(ReportFault::Write),
-        Err(ReportFault::NoMemory) => {
-            writer.pass_on()?;
-            Err(ReportFault::NoMemory)
-        }
+    match put {
+        Ok(()) => Ok(()),
+        Err(ReportFault::Write) => Err(StreamsFault::Write),
+        Err(ReportFault::NoMemory) => Err(StreamsFault::NoMemory),
     }
 }
 
@@ -251,7 +189,12 @@ impl<O: Target, A: Allocator + Clone> Listener for Rows<O, A> {
 
     ghost faulted = { StopsAt };
 
+    #[tactic(auto, using(crate::proofs::Heard::reports_what_it_heard))]
     fn hear(&mut self, event: &ConnectionEvent<'_>) -> Result<(), StreamsFault> {
-        self.take(event)
+        match event {
+            ConnectionEvent::Packet { .. } | ConnectionEvent::New { .. } => Ok(()),
+            ConnectionEvent::Of { delivered, bytes } => self.hear_delivery(delivered, bytes),
+            ConnectionEvent::Left(totals) => self.hear_left(totals.number),
+        }
     }
 }

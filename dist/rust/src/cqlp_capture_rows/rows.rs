@@ -9,7 +9,7 @@ use crate::cqlp_capture_prepared::Requests;
 use crate::cqlp_capture_streams::{ConnectionEvent, Listener, StreamsFault};
 use crate::cqlp_note::Target;
 use crate::cqlp_tcp_connections::{Delivery, Way};
-use crate::cqlp_text::{Buffered, Pen, TextWriter};
+use crate::cqlp_text::{Buffered, TextWriter};
 use crate::kit_std::alloc::{AllocError, Allocator, Global};
 
 /// How many bytes of text wait at most.
@@ -60,65 +60,47 @@ impl<O: Target, A: Allocator + Clone> Rows<O, A> {
         }
     }
 
-    /// Takes the next event of the connections.
-    fn take(&mut self, event: &ConnectionEvent<'_>) -> Result<(), StreamsFault> {
-        match event {
-            ConnectionEvent::Packet { .. } | ConnectionEvent::New { .. } => Ok(()),
-            ConnectionEvent::Of { delivered, bytes } => self.hear_delivery(delivered, bytes),
-            ConnectionEvent::Left(totals) => self.hear_left(totals.number),
-        }
-    }
-
+    /// Takes what a direction delivers: of the requests what is known of statements, of the responses their text.
     fn hear_delivery(&mut self, delivered: &Delivery, bytes: &[u8]) -> Result<(), StreamsFault> {
         if delivered.number != self.asked {
             return Ok(());
         }
-        match self.report(delivered, bytes) {
-            Ok(()) => Ok(()),
-            Err(ReportFault::Write) => Err(StreamsFault::Write),
-            Err(ReportFault::NoMemory) => Err(StreamsFault::NoMemory),
+        match delivered.way {
+            Way::Requests => {
+                self.responses
+                    .hear_requests(delivered.step, bytes, &mut self.requests);
+                Ok(())
+            }
+            Way::Responses => {
+                let put = self.direction.hear(
+                    true,
+                    delivered.step,
+                    delivered.at,
+                    bytes,
+                    &mut self.responses,
+                    &mut self.writer,
+                );
+                answer_of(pass_on(put, &mut self.writer))
+            }
         }
     }
 
+    /// Takes the end of a connection.
     fn hear_left(&mut self, number: u64) -> Result<(), StreamsFault> {
         if number != self.asked {
             return Ok(());
         }
-        match self.leave() {
-            Ok(()) => Ok(()),
-            Err(ReportFault::Write) => Err(StreamsFault::Write),
-            Err(ReportFault::NoMemory) => Err(StreamsFault::NoMemory),
-        }
-    }
-
-    /// Writes the text of an event of the connection.
-    fn report(&mut self, delivered: &Delivery, bytes: &[u8]) -> Result<(), ReportFault> {
-        put_delivery(
-            &mut self.requests,
-            &mut self.direction,
-            &mut self.responses,
-            delivered,
-            bytes,
-            &mut self.writer,
-        )
-    }
-
-    /// Writes the text of its end.
-    fn leave(&mut self) -> Result<(), ReportFault> {
-        put_left(&mut self.direction, &mut self.responses, &mut self.writer)
+        let put = self.direction.close(&mut self.responses, &mut self.writer);
+        answer_of(pass_on(put, &mut self.writer))
     }
 }
 
-/// Takes the text of an event, and passes it on, also where memory was refused.
-fn put_delivery<W: Target, A: Allocator + Clone, B: Allocator>(
-    requests: &mut Requests,
-    direction: &mut Direction<A>,
-    responses: &mut Responses<A>,
-    delivered: &Delivery,
-    bytes: &[u8],
-    writer: &mut TextWriter<Buffered<W, B>>,
+/// Passes on the text that was put, also where memory was refused.
+fn pass_on<W: Target, A: Allocator>(
+    put: Result<(), ReportFault>,
+    writer: &mut TextWriter<Buffered<W, A>>,
 ) -> Result<(), ReportFault> {
-    match put_heard(requests, direction, responses, delivered, bytes, writer) {
+    match put {
         Ok(()) => Ok(writer.pass_on()?),
         Err(ReportFault::Write) => Err(ReportFault::Write),
         Err(ReportFault::NoMemory) => {
@@ -128,39 +110,12 @@ fn put_delivery<W: Target, A: Allocator + Clone, B: Allocator>(
     }
 }
 
-/// Takes the text of an event.
-fn put_heard<P: Pen, A: Allocator + Clone>(
-    requests: &mut Requests,
-    direction: &mut Direction<A>,
-    responses: &mut Responses<A>,
-    delivered: &Delivery,
-    bytes: &[u8],
-    writer: &mut TextWriter<P>,
-) -> Result<(), ReportFault> {
-    match delivered.way {
-        Way::Requests => {
-            responses.hear_requests(delivered.step, bytes, requests);
-            Ok(())
-        }
-        Way::Responses => {
-            direction.hear(true, delivered.step, delivered.at, bytes, responses, writer)
-        }
-    }
-}
-
-/// Takes the text of the end of a connection, and passes it on.
-fn put_left<W: Target, A: Allocator + Clone, B: Allocator>(
-    direction: &mut Direction<A>,
-    responses: &mut Responses<A>,
-    writer: &mut TextWriter<Buffered<W, B>>,
-) -> Result<(), ReportFault> {
-    match direction.close(responses, writer) {
-        Ok(()) => Ok(writer.pass_on()?),
-        Err(ReportFault::Write) => Err(ReportFault::Write),
-        Err(ReportFault::NoMemory) => {
-            writer.pass_on()?;
-            Err(ReportFault::NoMemory)
-        }
+/// What a listener answers where the text of an event was put so.
+fn answer_of(put: Result<(), ReportFault>) -> Result<(), StreamsFault> {
+    match put {
+        Ok(()) => Ok(()),
+        Err(ReportFault::Write) => Err(StreamsFault::Write),
+        Err(ReportFault::NoMemory) => Err(StreamsFault::NoMemory),
     }
 }
 
@@ -177,6 +132,10 @@ fn take_memory<A: Allocator + Clone>(
 
 impl<O: Target, A: Allocator + Clone> Listener for Rows<O, A> {
     fn hear(&mut self, event: &ConnectionEvent<'_>) -> Result<(), StreamsFault> {
-        self.take(event)
+        match event {
+            ConnectionEvent::Packet { .. } | ConnectionEvent::New { .. } => Ok(()),
+            ConnectionEvent::Of { delivered, bytes } => self.hear_delivery(delivered, bytes),
+            ConnectionEvent::Left(totals) => self.hear_left(totals.number),
+        }
     }
 }
