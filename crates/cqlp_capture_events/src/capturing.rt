@@ -5,13 +5,11 @@ ghost use Rattle.cqlp_text.specs.Endings.{IsStatusOfTask};
 ghost use Rattle.cqlp_text.specs.Outputs.{written};
 ghost use Rattle.cqlp_tcp_connections.specs.Limits.{is_in_range};
 ghost use Rattle.cqlp_capture_streams.specs.Captures.{AreCounted, ReadsMade, read_counts};
-ghost use Rattle.cqlp_capture_events.specs.Capturing.{Listens, WritesEvents};
+ghost use Rattle.cqlp_capture_events.specs.Capturing.{WritesEvents};
 
 use crate::events::Events;
 use crate::words::EventsWords;
-use cqlp_capture_streams::{
-    CaptureRead, StreamsFault, StreamsLimits, conclude_capture, read_capture,
-};
+use cqlp_capture_streams::{StreamsFault, StreamsLimits, conclude_capture, read_capture};
 use cqlp_note::{Source, Target};
 use std::alloc::Global;
 
@@ -36,30 +34,17 @@ pub fn write_events<R: Source, O: Target, E: Target>(
         × WritesEvents limits connection ports.now xs m (R.left input.new) (written O.Target out) (written E.Target err)
         result.0 (written O.Target result.1) (written E.Target result.2) }
 {
-    let (answer, unread, out) = listen(alloc, limits, ports, connection, input, out);
-    let (status, err) = conclude_capture(&answer, ports, &EventsWords { unread }, err);
-    (status, out, err)
-}
-
-/// Reads the capture, and writes the lines. Answers what it was, how many frames were not read, and the output.
-fn listen<R: Source, O: Target>(
-    alloc: Global,
-    limits: StreamsLimits,
-    ports: &[u16],
-    connection: Option<u64>,
-    input: &mut R,
-    out: O,
-) -> (Result<CaptureRead, StreamsFault>, u64, O)
-    requires { is_in_range limits.connections ≡ true }
-    ensures { (xs : List ℕ) → R.left input.old ≡ Some xs → IsSome (O.contents out) →
-        (m : ReadsMade) × AreCounted m (read_counts R.Source input.old) (read_counts R.Source input.new)
-        × Listens limits connection ports.now xs m result.0 (R.left input.new) (written O.Target out) result.1 (written O.Target result.2) }
-{
     let mut events = match Events::new(alloc, connection, out) {
         Ok(events) => events,
-        Err(out) => return (Err(StreamsFault::NoMemory), 0, out),
+        Err(out) => {
+            let answer = Err(StreamsFault::NoMemory);
+            let words = EventsWords { unread: 0 };
+            let (status, err) = conclude_capture(&answer, ports, &words, err);
+            return (status, out, err);
+        }
     };
     let answer = read_capture(alloc, limits, ports, input, &mut events);
     let (out, unread) = events.into_parts();
-    (answer, unread, out)
+    let (status, err) = conclude_capture(&answer, ports, &EventsWords { unread }, err);
+    (status, out, err)
 }

@@ -5,12 +5,10 @@ ghost use Rattle.cqlp_text.specs.Endings.{IsStatusOfTask};
 ghost use Rattle.cqlp_text.specs.Outputs.{written};
 ghost use Rattle.cqlp_tcp_connections.specs.Limits.{is_in_range};
 ghost use Rattle.cqlp_capture_streams.specs.Captures.{AreCounted, ReadsMade, read_counts};
-ghost use Rattle.cqlp_capture_rows.specs.Capturing.{Listens, WritesRows};
+ghost use Rattle.cqlp_capture_rows.specs.Capturing.{WritesRows};
 
 use crate::rows::Rows;
-use cqlp_capture_streams::{
-    CaptureRead, LastWord, StreamsFault, StreamsLimits, conclude_capture, read_capture,
-};
+use cqlp_capture_streams::{LastWord, StreamsFault, StreamsLimits, conclude_capture, read_capture};
 use cqlp_note::{Source, Target};
 use std::alloc::Global;
 
@@ -35,29 +33,15 @@ pub fn write_rows<R: Source, O: Target, E: Target>(
         × WritesRows limits connection ports.now xs m (R.left input.new) (written O.Target out) (written E.Target err)
         result.0 (written O.Target result.1) (written E.Target result.2) }
 {
-    let (answer, out) = listen(alloc, limits, ports, connection, input, out);
-    let (status, err) = conclude_capture(&answer, ports, &LastWord("rows"), err);
-    (status, out, err)
-}
-
-/// Reads the capture, and writes the text. Answers what it was, and the output.
-fn listen<R: Source, O: Target>(
-    alloc: Global,
-    limits: StreamsLimits,
-    ports: &[u16],
-    connection: u64,
-    input: &mut R,
-    out: O,
-) -> (Result<CaptureRead, StreamsFault>, O)
-    requires { is_in_range limits.connections ≡ true }
-    ensures { (xs : List ℕ) → R.left input.old ≡ Some xs → IsSome (O.contents out) →
-        (m : ReadsMade) × AreCounted m (read_counts R.Source input.old) (read_counts R.Source input.new)
-        × Listens limits connection ports.now xs m result.0 (R.left input.new) (written O.Target out) (written O.Target result.1) }
-{
     let mut rows = match Rows::new(alloc, connection, out) {
         Ok(rows) => rows,
-        Err(out) => return (Err(StreamsFault::NoMemory), out),
+        Err(out) => {
+            let answer = Err(StreamsFault::NoMemory);
+            let (status, err) = conclude_capture(&answer, ports, &LastWord("rows"), err);
+            return (status, out, err);
+        }
     };
     let answer = read_capture(alloc, limits, ports, input, &mut rows);
-    (answer, rows.into_output())
+    let (status, err) = conclude_capture(&answer, ports, &LastWord("rows"), err);
+    (status, rows.into_output(), err)
 }

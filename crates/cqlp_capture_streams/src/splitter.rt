@@ -107,7 +107,8 @@ impl<A: Allocator + Clone> Splitter<A> {
     ghost use Rattle.cqlp_capture_streams.specs.Reportings.{FinishesAll, is_done};
     ghost use Rattle.cqlp_capture_streams.specs.Packets.{Finishes, HandsAll, ReportsCome, ReportsEvent, ReportsPacket, packet_begun};
 
-    /// Takes the next event, and reports what it means for connections.
+    /// Takes the next event, and reports what it means for connections. A packet whose bytes are here waits for those that were captured before
+    /// it, unless it passes as it is.
     #[inline]
     pub fn take<L: Listener>(
         &mut self,
@@ -123,7 +124,21 @@ impl<A: Allocator + Clone> Splitter<A> {
                 self.begin_packet(head);
                 Ok(())
             }
-            CaptureEvent::Data(bytes) => self.take_bytes(bytes, listener),
+            CaptureEvent::Data(bytes) => {
+                let packet = Packet {
+                    link: self.link,
+                    time: self.time,
+                    original: self.original,
+                    bytes,
+                };
+                if self.order.pass(&packet) {
+                    return self.take_packet(&packet, listener);
+                }
+                match self.order.push(&packet) {
+                    Ok(()) => self.hand_on_due(listener),
+                    Err(AllocError) => Err(StreamsFault::NoMemory),
+                }
+            }
             CaptureEvent::Skipped(why) => {
                 self.counts.count_skipped(*why);
                 Ok(())
@@ -137,31 +152,6 @@ impl<A: Allocator + Clone> Splitter<A> {
     {
         self.hand_on_all(listener)?;
         finish_all(&mut self.connections, listener)
-    }
-
-    /// Takes the bytes of the packet that began. It waits for those that were captured before it, unless it passes as it is.
-    #[inline(never)]
-    fn take_bytes<L: Listener>(
-        &mut self,
-        bytes: &[u8],
-        listener: &mut L,
-    ) -> Result<(), StreamsFault>
-        ensures { Gets L.Listener (λ ss. ReportsCome (is_done result) self.old (packet_begun self.old bytes.now) ss self.new)
-            listener.old result listener.new }
-    {
-        let packet = Packet {
-            link: self.link,
-            time: self.time,
-            original: self.original,
-            bytes,
-        };
-        if self.order.pass(&packet) {
-            return self.take_packet(&packet, listener);
-        }
-        match self.order.push(&packet) {
-            Ok(()) => self.hand_on_due(listener),
-            Err(AllocError) => Err(StreamsFault::NoMemory),
-        }
     }
 
     /// Has the packets leave that are to.

@@ -4,9 +4,7 @@
 use crate::kit_host::prelude::{AllocGlobal};
 use crate::cqlp_capture_events::events::Events;
 use crate::cqlp_capture_events::words::EventsWords;
-use crate::cqlp_capture_streams::{
-    CaptureRead, StreamsFault, StreamsLimits, conclude_capture, read_capture,
-};
+use crate::cqlp_capture_streams::{StreamsFault, StreamsLimits, conclude_capture, read_capture};
 use crate::cqlp_note::{Source, Target};
 use crate::kit_std::alloc::Global;
 
@@ -24,25 +22,17 @@ pub(crate) fn write_events<R: Source, O: Target, E: Target>(
     out: O,
     err: E,
 ) -> (u8, O, E) {
-    let (answer, unread, out) = listen(alloc, limits, ports, connection, input, out);
-    let (status, err) = conclude_capture(&answer, ports, &EventsWords { unread }, err);
-    (status, out, err)
-}
-
-/// Reads the capture, and writes the lines. Answers what it was, how many frames were not read, and the output.
-fn listen<R: Source, O: Target>(
-    alloc: Global,
-    limits: StreamsLimits,
-    ports: &[u16],
-    connection: Option<u64>,
-    input: &mut R,
-    out: O,
-) -> (Result<CaptureRead, StreamsFault>, u64, O) {
     let mut events = match Events::new(alloc, connection, out) {
         Ok(events) => events,
-        Err(out) => return (Err(StreamsFault::NoMemory), 0, out),
+        Err(out) => {
+            let answer = Err(StreamsFault::NoMemory);
+            let words = EventsWords { unread: 0 };
+            let (status, err) = conclude_capture(&answer, ports, &words, err);
+            return (status, out, err);
+        }
     };
     let answer = read_capture(alloc, limits, ports, input, &mut events);
     let (out, unread) = events.into_parts();
-    (answer, unread, out)
+    let (status, err) = conclude_capture(&answer, ports, &EventsWords { unread }, err);
+    (status, out, err)
 }

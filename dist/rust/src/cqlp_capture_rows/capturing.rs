@@ -3,9 +3,7 @@
 
 use crate::kit_host::prelude::{AllocGlobal};
 use crate::cqlp_capture_rows::rows::Rows;
-use crate::cqlp_capture_streams::{
-    CaptureRead, LastWord, StreamsFault, StreamsLimits, conclude_capture, read_capture,
-};
+use crate::cqlp_capture_streams::{LastWord, StreamsFault, StreamsLimits, conclude_capture, read_capture};
 use crate::cqlp_note::{Source, Target};
 use crate::kit_std::alloc::Global;
 
@@ -23,24 +21,15 @@ pub(crate) fn write_rows<R: Source, O: Target, E: Target>(
     out: O,
     err: E,
 ) -> (u8, O, E) {
-    let (answer, out) = listen(alloc, limits, ports, connection, input, out);
-    let (status, err) = conclude_capture(&answer, ports, &LastWord("rows"), err);
-    (status, out, err)
-}
-
-/// Reads the capture, and writes the text. Answers what it was, and the output.
-fn listen<R: Source, O: Target>(
-    alloc: Global,
-    limits: StreamsLimits,
-    ports: &[u16],
-    connection: u64,
-    input: &mut R,
-    out: O,
-) -> (Result<CaptureRead, StreamsFault>, O) {
     let mut rows = match Rows::new(alloc, connection, out) {
         Ok(rows) => rows,
-        Err(out) => return (Err(StreamsFault::NoMemory), out),
+        Err(out) => {
+            let answer = Err(StreamsFault::NoMemory);
+            let (status, err) = conclude_capture(&answer, ports, &LastWord("rows"), err);
+            return (status, out, err);
+        }
     };
     let answer = read_capture(alloc, limits, ports, input, &mut rows);
-    (answer, rows.into_output())
+    let (status, err) = conclude_capture(&answer, ports, &LastWord("rows"), err);
+    (status, rows.into_output(), err)
 }

@@ -70,7 +70,8 @@ impl<A: Allocator> Splitter<A> {
 }
 
 impl<A: Allocator + Clone> Splitter<A> {
-    /// Takes the next event, and reports what it means for connections.
+    /// Takes the next event, and reports what it means for connections. A packet whose bytes are here waits for those that were captured before
+    /// it, unless it passes as it is.
     #[inline]
     pub fn take<L: Listener>(
         &mut self,
@@ -83,7 +84,21 @@ impl<A: Allocator + Clone> Splitter<A> {
                 self.begin_packet(head);
                 Ok(())
             }
-            CaptureEvent::Data(bytes) => self.take_bytes(bytes, listener),
+            CaptureEvent::Data(bytes) => {
+                let packet = Packet {
+                    link: self.link,
+                    time: self.time,
+                    original: self.original,
+                    bytes,
+                };
+                if self.order.pass(&packet) {
+                    return self.take_packet(&packet, listener);
+                }
+                match self.order.push(&packet) {
+                    Ok(()) => self.hand_on_due(listener),
+                    Err(AllocError) => Err(StreamsFault::NoMemory),
+                }
+            }
             CaptureEvent::Skipped(why) => {
                 self.counts.count_skipped(*why);
                 Ok(())
@@ -95,28 +110,6 @@ impl<A: Allocator + Clone> Splitter<A> {
     pub fn finish<L: Listener>(&mut self, listener: &mut L) -> Result<(), StreamsFault> {
         self.hand_on_all(listener)?;
         finish_all(&mut self.connections, listener)
-    }
-
-    /// Takes the bytes of the packet that began. It waits for those that were captured before it, unless it passes as it is.
-    #[inline(never)]
-    fn take_bytes<L: Listener>(
-        &mut self,
-        bytes: &[u8],
-        listener: &mut L,
-    ) -> Result<(), StreamsFault> {
-        let packet = Packet {
-            link: self.link,
-            time: self.time,
-            original: self.original,
-            bytes,
-        };
-        if self.order.pass(&packet) {
-            return self.take_packet(&packet, listener);
-        }
-        match self.order.push(&packet) {
-            Ok(()) => self.hand_on_due(listener),
-            Err(AllocError) => Err(StreamsFault::NoMemory),
-        }
     }
 
     /// Has the packets leave that are to.

@@ -1,6 +1,30 @@
+use Rattle.std.proofs.Common.{arith, Err, IsSome, refl, sym, subst, inr}
+use Rattle.cqlp_text.specs.Outputs.{written}
+use Rattle.cqlp_capture_streams.specs.declared.fault.StreamsFault.TheVariants as fault
+use Rattle.cqlp_capture_streams.specs.Captures.{no_reads}
+use Rattle.cqlp_capture_streams.specs.Streams.{ReadsCapture}
+use Rattle.cqlp_capture_events.specs.Listening.{Listening, StopsAt, new_listening, with_connection_event}
 use Rattle.cqlp_capture_events.proofs.capturing.write_events.Goals as goal
+
+pub returns-in-Err-clause-events : goal.returns-in-Err-clause-events
+returns-in-Err-clause-events g c = λ xs is known known'.
+    (no_reads, (λ fits. omega arith, refl, λ fits. omega arith), (Err fault.NoMemory, 0, (new_listening c.args.connection (written g.O.Target c.args.out), inr (refl, refl, is, refl), refl, c.in-Err.ensures.err), c.conclude_capture-status.ensures.concludes known'))
 
 pub returns-clause-events : goal.returns-clause-events
 returns-clause-events g c = λ xs is known known'.
-    let a = c.listen-answer.ensures xs is known in
-    (a.0, a.1, (c.listen-answer.result.0, c.listen-answer.result.1, a.2, c.conclude_capture-status.ensures.concludes known'))
+    let reports = subst (λ (w : Listening). IsSome w.output.given) (sym c.in-Ok.ensures.ok) known in
+    let a = c.read_capture-answer.ensures.reads xs is reports in (
+      a.0,
+      a.1,
+      (
+        c.read_capture-answer.result,
+        c.into_parts-out.result.1,
+        (
+          c.read_capture-answer.new.listener,
+          subst (λ (w : Listening). ReadsCapture with_connection_event StopsAt c.args.limits c.args.ports.now xs a.0 c.read_capture-answer.result (g.R.Source.left c.read_capture-answer.new.input) w c.read_capture-answer.new.listener) c.in-Ok.ensures.ok a.2,
+          c.into_parts-out.ensures.unread,
+          c.into_parts-out.ensures.output,
+        ),
+        c.conclude_capture-status-2.ensures.concludes known',
+      ),
+    )
