@@ -3,8 +3,8 @@
 
 The programs of each line run in turn, ROUNDS times (15); a time is that of the processor, the least of them, and a ratio is the time of
 what is by hand to that of ours, so that over 1 is faster than by hand. Batches are also beside a reader by hand that puts the same events, and
-beside `cqlp check`. The program is what cargo compiles over dist/rust, or $CQLP; `-` marks what is not on this machine (a C compiler, or
-bindings/out/libcqlp.a).
+beside `cqlp check`. The program is both what cargo compiles over dist/rust, or $CQLP, and the proved one, which `./prove` builds, or $CQLP_PROVED. `-`
+marks what is not on this machine (the proved program, a C compiler, or bindings/out/libcqlp.a).
 """
 import os
 import pathlib
@@ -20,6 +20,7 @@ EVENTS = {'rows': 4_000_000, 'collections': 3_600_000, 'columns': 1_000_000}
 PAGES = ('rows', 'collections', 'columns', 'kinds', 'blobs')
 OPTIONS = bytes([4, 0, 0, 0, 5, 0, 0, 0, 0])
 WRITES = 20
+BESIDE_HAND = ('by hand', 'cargo', 'proved', 'by hand / cargo', 'by hand / proved', 'proved / cargo')
 # Each is a time by hand and one of ours.
 RATIOS_OF_WRITING = [('checked', 'encode'), ('checked', 'cells'), ('trusting', 'encode'), ('trusting', 'append'), ('trusting', 'cells')]
 
@@ -49,11 +50,11 @@ def print_times(name, times):
     print(f'| {name} | {" | ".join(shown_times(times))} |', flush=True)
 
 
-def print_row(name, times, base=0):
-    """Prints a row of a table: the times, and the ratio of the one named `base` to each other."""
-    shown = shown_times(times)
-    ratios = ['-' if it is None or times[base] is None else f'{times[base] / it:.2f}' for at, it in enumerate(times) if at != base]
-    print(f'| {name} | {" | ".join(shown)} | {" | ".join(ratios)} |', flush=True)
+def print_beside_hand(name, times):
+    """Prints a row of times by hand, of what cargo compiles and of what is proved: by hand to each of these, and the proved one to the other."""
+    hand, cargo, proved = times
+    ratios = ['-' if one is None or other is None else f'{one / other:.2f}' for one, other in ((hand, cargo), (hand, proved), (proved, cargo))]
+    print(f'| {name} | {" | ".join(shown_times(times))} | {" | ".join(ratios)} |', flush=True)
 
 
 def table(*heads):
@@ -69,6 +70,7 @@ class Programs:
         self.pages = self.cargo(HERE / 'pages', HERE / 'out', 'pages')
         self.rows = self.cargo(HERE / 'rows', HERE / 'out', 'rows')
         self.cqlp = os.environ.get('CQLP') or self.program()
+        self.proved = os.environ.get('CQLP_PROVED') or next((str(it) for it in [TOP / 'crates/cqlp/out/cqlp'] if it.exists()), None)
         self.batches = self.c('bindings/c/speed.c', TOP / 'bindings/out/libcqlp.a')
         self.events = self.c('bench/events.c')
         self.ways = {'checked': (self.encode, 'checked'), 'trusting': (self.encode, '')}
@@ -84,9 +86,13 @@ class Programs:
         return str(target / 'release' / name)
 
     def program(self):
-        """The program that `./cqlp` runs: the one that cargo built, where it did."""
+        """The program that cargo builds for `./cqlp`."""
         subprocess.run([TOP / 'cqlp', '--version'], check=True, stdout=subprocess.DEVNULL)
-        return str(next(it for it in (TOP / made for made in ('dist/out/program/target/release/cqlp', 'crates/cqlp/out/cqlp')) if it.exists()))
+        return str(TOP / 'dist/out/program/target/release/cqlp')
+
+    def of_both(self, command, page):
+        """The tasks of a command of the program as cargo compiles it, and of the proved one."""
+        return [it and (lambda it=it: spent([it, command, page])) for it in (self.cqlp, self.proved)]
 
     def c(self, source, *libraries):
         """A program in C: what counts the events that cqlp_next puts, in batches; what puts as many and decodes nothing."""
@@ -110,10 +116,9 @@ class Programs:
 
 
 def read_tables(programs, pages, rounds):
-    table('`check`', 'by hand', '`cqlp check`', 'ratio')
+    table('`check`', *BESIDE_HAND)
     for name in ('rows', 'collections', 'columns', 'blobs'):
-        times = least(rounds, [lambda: spent([programs.check, pages[name]]), lambda: spent([programs.cqlp, 'check', pages[name]])])
-        print_row(name, times)
+        print_beside_hand(name, least(rounds, [lambda: spent([programs.check, pages[name]]), *programs.of_both('check', pages[name])]))
     batches_table(programs, pages, rounds)
     table('events written alone', '`cqlp check`', 'events of 72 bytes, decoding nothing')
     for name, many in EVENTS.items():
@@ -133,11 +138,11 @@ def batches_table(programs, pages, rounds):
 
 
 def text_table(programs, pages, rounds):
-    table('text', 'by hand', '`cqlp`', 'ratio')
+    table('text', *BESIDE_HAND)
     for command in ('show', 'rows'):
         for name in ('rows', 'collections', 'columns', 'kinds'):
-            times = least(rounds, [lambda it=it: spent([it, command, pages[name]]) for it in (programs.text, programs.cqlp)])
-            print_row(f'`{command}` {name}', times)
+            tasks = [lambda: spent([programs.text, command, pages[name]]), *programs.of_both(command, pages[name])]
+            print_beside_hand(f'`{command}` {name}', least(rounds, tasks))
 
 
 def writings(program, programs, page, how):
@@ -170,7 +175,7 @@ def start_line(programs, rounds):
 def main(rounds=15):
     with tempfile.TemporaryDirectory() as room:
         programs = Programs(pathlib.Path(room))
-        print(f'{programs.cqlp}, the least of {rounds} runs in turn')
+        print(f'{programs.cqlp} and {programs.proved or "no proved program"}, the least of {rounds} runs in turn')
         pages = {name: programs.page(name) for name in PAGES}
         read_tables(programs, pages, int(rounds))
         rows_table(programs, pages, int(rounds))
