@@ -5,6 +5,7 @@
 
 mod common;
 
+use common::digits::bytes_of;
 use common::streams;
 use cqlp::capture::{CaptureLimits, CaptureReader, CaptureStep, Control, Stream, StreamSegment, StreamStep};
 use cqlp::cells::{CellBuilder, CellLimits};
@@ -101,17 +102,6 @@ fn room(limits: &Limits) -> u64 {
     u64::from(limits.text.max(limits.cell)) + 8 * u64::from(limits.entries) + 40 * u64::from(limits.depth)
 }
 
-/// The bytes that hexadecimal digits spell; `100x61` is a hundred times 61.
-fn bytes_of(words: &str) -> Vec<u8> {
-    words.split(' ').flat_map(repeated).collect()
-}
-
-fn repeated(word: &str) -> Vec<u8> {
-    let (times, digits) = word.split_once('x').unwrap_or(("1", word));
-    let once = digits.as_bytes().chunks(2).map(|pair| u8::from_str_radix(str::from_utf8(pair).unwrap(), 16).unwrap());
-    once.collect::<Vec<_>>().repeat(times.parse().unwrap())
-}
-
 /// Contents that lie whole in one piece, lengths and counts far past what comes, and texts that are none.
 const CLAIMS: [&str; 24] = [
     "0400000007 0000006b 00000064 100x61 0001 00",
@@ -140,10 +130,14 @@ const CLAIMS: [&str; 24] = [
     "8400000008 02000000 00000004 0001 aa 00000001 7fffffff 7fffffff 0000 0000",
 ];
 
-/// The claims, and the worked streams.
+/// The claims, those of pieces/lines.txt, of every notation, part, type and kind of value that can claim, and the worked streams.
 fn all_streams() -> Vec<Vec<u8>> {
-    let claims = CLAIMS.iter().map(|words| bytes_of(words));
-    claims.chain(streams().into_iter().map(|stream| stream.bytes)).collect()
+    let lines = include_str!("pieces/lines.txt").lines().filter(|line| line.starts_with("claimed_"));
+    let mut claims: Vec<_> = lines.filter_map(|line| Some(bytes_of(line.split_once('|')?.1))).collect();
+    claims.dedup();
+    assert_eq!(claims.len(), 54);
+    let own = CLAIMS.iter().map(|words| bytes_of(words));
+    own.chain(claims).chain(streams().into_iter().map(|stream| stream.bytes)).collect()
 }
 
 /// Gives pieces of this many bytes.

@@ -2,7 +2,8 @@
 #![forbid(unsafe_code)]
 
 use cqlp::session::{AnswerError, BeginError, Client, Phase, Reply, RequestKind, Server, ServerRefusal, SlotsOrMemory, Stray, Ticket};
-use cqlp::{Global, Header, Opcode};
+use cqlp::{Finish, Global, Header, Opcode, Outcome, Reason, Refusal};
+use std::fmt::Debug;
 
 fn header(response: bool, stream: i16, opcode: Opcode) -> Header {
     Header { response, flags: 0, stream, opcode, length: 0 }
@@ -98,4 +99,27 @@ fn slots_out_of_range() {
         assert!(matches!(Client::new(Global, slots), Err(SlotsOrMemory::BadSlots)), "{slots}");
         assert!(matches!(Server::new(Global, slots), Err(SlotsOrMemory::BadSlots)), "{slots}");
     }
+}
+
+/// Each is equal to itself alone.
+fn differ<T: PartialEq + Debug>(values: &[T]) {
+    for (i, one) in values.iter().enumerate() {
+        for (j, other) in values.iter().enumerate() {
+            assert_eq!(one == other, i == j, "{one:?} and {other:?}");
+        }
+    }
+}
+
+#[test]
+fn values_that_differ_are_not_equal() {
+    differ(&[Stray::NotResponse, Stray::NoSuchStream, Stray::WrongOpcode]);
+    let finishes = [
+        Finish::Whole { bytes: 1 },
+        Finish::Whole { bytes: 2 },
+        Finish::Cut { frame_at: 0, bytes: 1 },
+        Finish::Refused(Refusal { at: 0, why: Reason::Overrun }),
+        Finish::Refused(Refusal { at: 0, why: Reason::TooLong }),
+    ];
+    let others = [Outcome::ReadFault, Outcome::SinkFault, Outcome::Turns];
+    differ(&[&finishes.map(Outcome::Finished)[..], &others].concat());
 }

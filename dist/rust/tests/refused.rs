@@ -1,7 +1,7 @@
 //! Memory that is refused to the calls that take it from the process: each request in turn, and each with all after it. What a call
 //! made until then is given back.
 
-use cqlp::capture::{CaptureEnd, CaptureLimits, CaptureReader, CaptureStep, Control, Stream, StreamSegment, StreamStep};
+use cqlp::capture::{CaptureEnd, CaptureLimits, CaptureReader, CaptureStep, Control, NewReaderError, Stream, StreamSegment, StreamStep};
 use cqlp::cells::{CellError, CellLimits, PageCellError, PageCells, PageProgress};
 use cqlp::columns::{BatchLimits, Columns, MakeError, TakeError};
 use cqlp::frame::{
@@ -9,7 +9,11 @@ use cqlp::frame::{
     Spec, TypeTree, Value, append, bind_value, raw_value, read_value,
 };
 use cqlp::memory::{AllocError, Box, String, Vec};
-use cqlp::{Event, Field, Global, Header, Kind, Limits, Opcode, Scalar, TableError, table_of, table_of_specs};
+use cqlp::session::{Client, ClientOf, Server, ServerOf, SlotsOrMemory};
+use cqlp::{
+    Decoder, Event, Field, Global, Header, Kind, Limits, NewError, NoMemory, Node, Opcode, Scalar, Step, TableError, TypeTable, table_of,
+    table_of_specs,
+};
 use std::alloc::{GlobalAlloc, Layout, System};
 use std::cell::{Cell, RefCell};
 use std::ptr::null_mut;
@@ -84,8 +88,8 @@ fn refused(first: u64, last: u64, call: impl Fn() -> Answer) -> (Answer, u64, i6
     (answer, requests, held)
 }
 
-/// A call finds memory exactly where none of its requests is refused, of which it makes at least this many.
-fn finds_just_what_is_there(least: u64, call: impl Fn() -> Answer) {
+/// A call finds memory exactly where none of its requests is refused, of which it makes at least this many. How many it makes.
+fn finds_just_what_is_there(least: u64, call: impl Fn() -> Answer) -> u64 {
     let (answer, requests, held) = refused(0, 0, &call);
     assert_eq!((answer, held), (Answer::Granted, 0));
     assert!(least <= requests);
@@ -94,6 +98,62 @@ fn finds_just_what_is_there(least: u64, call: impl Fn() -> Answer) {
         assert_eq!(refused(number, u64::MAX, &call), (Answer::NoMemory, number, 0));
     }
     assert_eq!(refused(requests + 1, u64::MAX, &call), (Answer::Granted, requests, 0));
+    requests
+}
+
+/// The same, where it makes just this many.
+fn finds_memory(requests: u64, call: impl Fn() -> Answer) {
+    assert_eq!(finds_just_what_is_there(requests, call), requests);
+}
+
+fn answer<T, E: PartialEq>(made: Result<T, E>, no_memory: E) -> Answer {
+    match made {
+        Ok(_) => Answer::Granted,
+        Err(error) if error == no_memory => Answer::NoMemory,
+        Err(_) => Answer::Other,
+    }
+}
+
+const SMALL: Limits = Limits { text: 128, cell: 64, entries: 8, depth: 3, types: true, parts: false };
+
+#[test]
+fn decoders_and_their_tables() {
+    finds_memory(4, || answer(Decoder::new(Global, SMALL), NewError::NoMemory));
+    finds_memory(4, || answer(Decoder::lenient(Global, SMALL), NewError::NoMemory));
+    finds_memory(1, || answer(TypeTable::new(Global, SMALL.entries), NoMemory));
+}
+
+/// A page up to its types, a list of ints.
+const LIST_TYPE: &[u8; 34] = b"\x84\0\0\0\x08\0\0\0\x35\0\0\0\x02\0\0\0\x01\0\0\0\x01\0\x01k\0\x01t\0\x01c\0\x20\0\x09";
+
+fn is_list(table: &TypeTable) -> bool {
+    let nodes = [Node { kind: Kind::List, arity: 1, span: 2 }, Node { kind: Kind::Int, arity: 0, span: 1 }];
+    table.len() == 2 && [table.node(0), table.node(1)] == nodes.map(Some)
+}
+
+/// The fifth request of a decoder that reads types is that of their copy. Where it is refused the types are as they were.
+#[test]
+fn copied_tables() {
+    finds_memory(5, || {
+        let Ok(mut decoder) = Decoder::new(Global, SMALL) else { return Answer::NoMemory };
+        let mut rest = &LIST_TYPE[..];
+        while let Step::Event { used, .. } = decoder.next(rest) {
+            rest = &rest[used..];
+        }
+        match decoder.table().clone_table() {
+            Ok(copy) if is_list(&copy) && is_list(decoder.table()) => Answer::Granted,
+            Err(NoMemory) if is_list(decoder.table()) => Answer::NoMemory,
+            _ => Answer::Other,
+        }
+    });
+}
+
+#[test]
+fn cores() {
+    finds_memory(2, || answer(Client::new(Global, 10), SlotsOrMemory::NoMemory));
+    finds_memory(1, || answer(Server::new(Global, 10), SlotsOrMemory::NoMemory));
+    finds_memory(3, || answer(ClientOf::<u64>::new(Global, 10), SlotsOrMemory::NoMemory));
+    finds_memory(2, || answer(ServerOf::<u64>::new(Global, 10), SlotsOrMemory::NoMemory));
 }
 
 fn byte() -> Result<Box<TypeTree>, AllocError> {
@@ -198,22 +258,25 @@ fn answers_to_other_versions() {
     });
 }
 
-/// A reader of captures takes memory when it is made, and none while it reads packets in pieces.
+/// A reader of captures takes memory twice when it is made, and none while it reads packets in pieces.
 #[test]
 fn captures() {
-    let file = std::fs::read(concat!(env!("CARGO_MANIFEST_DIR"), "/tests/captures/driver.pcap")).unwrap();
-    finds_just_what_is_there(1, || {
-        let Ok(mut reader) = CaptureReader::new(Global, CaptureLimits::DEFAULT) else {
-            return Answer::NoMemory;
-        };
-        for piece in file.chunks(100) {
-            let mut used = 0;
-            while let CaptureStep::Event { used: taken, .. } = reader.next(&piece[used..]) {
-                used += taken;
+    for (name, size) in [("driver.pcap", 1), ("driver.pcap", 100), ("driver.pcapng", 1), ("driver.pcapng", 100)] {
+        let file = std::fs::read(format!("{}/tests/captures/{name}", env!("CARGO_MANIFEST_DIR"))).unwrap();
+        finds_memory(2, || {
+            let mut reader = match CaptureReader::new(Global, CaptureLimits::DEFAULT) {
+                Ok(reader) => reader,
+                Err(error) => return answer::<(), _>(Err(error), NewReaderError::NoMemory),
+            };
+            for piece in file.chunks(size) {
+                let mut used = 0;
+                while let CaptureStep::Event { used: taken, .. } = reader.next(&piece[used..]) {
+                    used += taken;
+                }
             }
-        }
-        if reader.finish() == (CaptureEnd::Whole { bytes: file.len() as u64 }) { Answer::Granted } else { Answer::Other }
-    });
+            if reader.finish() == (CaptureEnd::Whole { bytes: file.len() as u64 }) { Answer::Granted } else { Answer::Other }
+        });
+    }
 }
 
 /// A stream takes memory for what comes early alone, and is as before where it is refused.

@@ -3,9 +3,11 @@
 #![allow(dead_code)]
 
 pub mod cores;
+pub mod digits;
 
 use cqlp::text::{Ending, ending_line, event_line};
 use cqlp::{Decoder, Finish, Global, Limits, OfStd, Step};
+use digits::bytes_of;
 
 /// A stream of streams.txt, and what is said of it.
 pub struct Stream {
@@ -37,10 +39,6 @@ fn begun(words: &str) -> Stream {
     let &[text, cell, entries, depth, types, parts] = &numbers[..] else { panic!("six numbers") };
     let limits = Limits { text, cell, entries, depth, types: types == 1, parts: parts == 1 };
     Stream { name: name.to_string(), limits, bytes: Vec::new(), said: String::new() }
-}
-
-fn bytes_of(digits: &str) -> Vec<u8> {
-    digits.as_bytes().chunks(2).map(|pair| u8::from_str_radix(std::str::from_utf8(pair).unwrap(), 16).unwrap()).collect()
 }
 
 /// The lines of the events of these pieces, and of the verdict.

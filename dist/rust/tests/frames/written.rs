@@ -31,6 +31,7 @@ pub fn write(frame: &Frame) -> (Result<u32, EncodeError>, Vec<u8>) {
     let answer = encode(frame, &mut target);
     let bytes = target.into_inner();
     assert_eq!(appended(frame), (answer, bytes.clone()));
+    assert_eq!(frame.measure().map_err(EncodeError::Unfit), answer);
     (answer, bytes)
 }
 
