@@ -76,7 +76,7 @@ class Decoders(unittest.TestCase):
                         ending = wanted[1]
                     self.assertEqual((exact(found), ending), (exact(wanted[0]), wanted[1]), (stream.name, size))
 
-    def test_pieces_of_any_buffer(self) -> None:
+    def test_any_buffer_is_fed(self) -> None:
         for made in (bytes, bytearray, memoryview):
             found, ending = fed([made(PAGES[:100]), made(b""), made(PAGES[100:])])
             self.assertEqual((found, ending), (list(cqlp.frames(PAGES)), None))

@@ -292,7 +292,7 @@ class Messages(unittest.TestCase):
                 ended = sum(event.tag == Tag.END for event in events)
                 self.assertEqual((ending, exact(frames)), (wanted, exact(whole[:ended])), (stream.name, at))
 
-    def test_pieces_do_not_matter(self) -> None:
+    def test_cuts_do_not_matter(self) -> None:
         for stream in [*streams(), *others()]:
             whole = endings(cqlp.frames, stream.bytes, stream.limits)
             for piece in (1, 7):

@@ -1,4 +1,4 @@
-//! The program `cqlp`, of the proved sources without their contracts. In a build of tests it is also the programs that the gate runs.
+//! The program `cqlp`, of the proved sources without their contracts, and tests of its parts.
 #![cfg_attr(not(test), no_main)]
 #![allow(unused, clippy::all)]
 
@@ -11,6 +11,8 @@ extern crate alloc;
 mod kit_std;
 // The modules.
 
+#[cfg(test)]
+mod calls;
 #[cfg(test)]
 mod heap;
 #[cfg(test)]
