@@ -10,7 +10,7 @@ use Rattle.cqlp_tcp_connections.specs.Ends.{ends_of, first_way, other}
 use Rattle.cqlp_tcp_connections.specs.Totals.{counted}
 use Rattle.cqlp_tcp_connections.specs.Known as one
 use Rattle.cqlp_tcp_connections.specs.Known.{Flows, Known, Delivering, begins_anew, closed, counted_on, known, new_flows}
-use Rattle.cqlp_tcp_connections.specs.Tables.{Departing, Pulling, Table, Taking, begun, crowded, crowded_by, first_becomes, first_delivers, found_in, left_by, left_in, pulled_on, room_in, seen_in, taken_by, taken_in, taken_turned, to_front, way_of_first, with_known}
+use Rattle.cqlp_tcp_connections.specs.Tables.{Departing, Pulling, Table, Taking, begun, between, crowded, crowded_by, first_becomes, first_delivers, found_in, left_by, left_in, pulled_on, room_in, seen_in, taken_by, taken_in, taken_turned, to_front, way_of_first, with_known}
 use Rattle.cqlp_tcp_connections.specs.Laws.{ChangesNoStream, Keeps, LeavesTheOthers, OneAnswerOfNew, OthersStay, pair_of, pairs}
 use Rattle.cqlp_tcp_connections.specs.Laws.Keeps.{same, front, begun as begun_by}
 
@@ -80,7 +80,7 @@ leaves_by None k ks t = inr refl
 
 leaves : (t : Table) (ks : List Known) → t.known ≡ ks → ((drop 1 (left_in ks t).after.known ≡ drop 1 ks) × (length ks ≤ length (left_in ks t).after.known)) ⊎ ((left_in ks t).after.known ≡ drop 1 ks)
 leaves t [] e = inl (ap (λ (x : List Known). drop 1 x) e, omega arith)
-leaves t (k ∷ ks) e = leaves_by (closed k.flows).delivered (known k.ends (closed k.flows).after) ks t
+leaves t (k ∷ ks) e = leaves_by (between k.ends (closed k.flows).delivered) (known k.ends (closed k.flows).after) ks t
 
 pub leaves_others : LeavesTheOthers
 leaves_others = (

@@ -1,6 +1,6 @@
 -- The connections of a pool, as the entries of its cache.
 use Rattle.std.proofs.Common.{◌≡◌, ℕ, zero, suc, ◌+◌, ◌-◌, ◌<◌, ◌≤◌, Bool, true, false, cond, List, [], ◌∷◌, ◌++◌, length, take, drop, refl, sym, ap, subst, ◌∙◌, arith}
-use Rattle.std.specs.Prelude.{◌==◌, ◌&&◌, not, bytes_eq, nat_lt, IfOk, OnErr, Result, Ok, Err, Option, Some, None, is_some, option_map, slice_get}
+use Rattle.std.specs.Prelude.{◌==◌, ◌&&◌, not, bytes_eq, nat_lt, OnErr, Result, Ok, Err, Option, Some, None, is_some, option_map, slice_get}
 use Rattle.std.specs.List.{AllByRecursion, IsDistinct, position_or_len, remove}
 use Rattle.std.specs.Cmp.{nat_eq_equiv}
 use Rattle.std.specs.Map.{keys_of, lookup, lookup_entry, remove_entry, set_value}
@@ -16,9 +16,9 @@ use Rattle.cqlp_tcp_connections.specs.contracts.ends.EndsPartialEq.TheImpl.{eq-v
 use Rattle.cqlp_tcp_connections.specs.declared.ends.Ends.{Ends}
 use Rattle.cqlp_tcp_connections.specs.Ends.{same_address, same_end, same_ends}
 use Rattle.cqlp_tcp_connections.specs.declared.limits.ConnectionLimits.{ConnectionLimits}
-use Rattle.cqlp_tcp_connections.specs.declared.delivery.Delivery.{Delivery}
+use Rattle.cqlp_tcp_connections.specs.declared.delivery.WayStep.{WayStep}
 use Rattle.cqlp_tcp_connections.specs.Known.{Flows, Known, Delivering, known, size_of, delivering}
-use Rattle.cqlp_tcp_connections.specs.Tables.{early_of, first_becomes, first_delivering, first_delivers, found_in, last_first, to_front}
+use Rattle.cqlp_tcp_connections.specs.Tables.{between, early_of, first_becomes, first_delivering, first_delivers, found_in, last_first, to_front}
 use Rattle.cqlp_tcp_connections.specs.Pools.{PoolState, bringing, brought, first_of, known_of, pool}
 
 -- `==` of ends, by which the cache finds them
@@ -321,22 +321,17 @@ call_becomes f es k v w c e =
     ∙ ap (λ (x : Flows). known k x ∷ known_of c.rest) e
     ∙ sym (ap (λ (x : List Entry). first_becomes f (known_of x)) c.is)
 
-pub call_delivers : (f : Flows → Delivering) (es : List Entry) (k : Ends) (v w : Flows) (delivered : Option Delivery) → IsCall es k v → delivering delivered w ≡ f v
-    → first_delivering delivered (known_of (set_value (eq_ends k) es w)) ≡ first_delivers f (known_of es)
-call_delivers f es k v w delivered c e =
-    ap (λ (x : List Entry). first_delivering delivered (known_of x)) (call_set es k v w c)
-    ∙ ap (λ (t : Delivering). first_delivering t.delivered (known k t.after ∷ known_of c.rest)) e
+pub call_delivers : (f : Flows → Delivering) (es : List Entry) (k : Ends) (v w : Flows) (step : Option WayStep) → IsCall es k v → delivering step w ≡ f v
+    → first_delivering (between k step) (known_of (set_value (eq_ends k) es w)) ≡ first_delivers f (known_of es)
+call_delivers f es k v w step c e =
+    ap (λ (x : List Entry). first_delivering (between k step) (known_of x)) (call_set es k v w c)
+    ∙ ap (λ (t : Delivering). first_delivering (between k t.delivered) (known k t.after ∷ known_of c.rest)) e
     ∙ sym (ap (λ (x : List Entry). first_delivers f (known_of x)) c.is)
 
-pub call_delivers_ok : {E : Type 0} (r : Result (Option Delivery) E) (f : Flows → Delivering) (es : List Entry) (k : Ends) (v w : Flows) → IsCall es k v → IfOk r (λ delivered. delivering delivered w ≡ f v)
-    → IfOk r (λ delivered. first_delivering delivered (known_of (set_value (eq_ends k) es w)) ≡ first_delivers f (known_of es))
-call_delivers_ok (Ok delivered) f es k v w c e = call_delivers f es k v w delivered c e
-call_delivers_ok (Err x) f es k v w c e = tt
-
-pub call_becomes_err : {E : Type 0} (r : Result (Option Delivery) E) (f : Flows → Flows) (es : List Entry) (k : Ends) (v w : Flows) → IsCall es k v → OnErr r (w ≡ f v)
-    → OnErr r (known_of (set_value (eq_ends k) es w) ≡ first_becomes f (known_of es))
-call_becomes_err (Ok delivered) f es k v w c e = tt
-call_becomes_err (Err x) f es k v w c e = call_becomes f es k v w c e
+-- where a call failed
+pub on_err : {T E P : Type 0} (r : Result T E) → P → OnErr r P
+on_err (Ok x) p = tt
+on_err (Err e) p = p
 
 -- the sum before and after it
 pub call_before : (es : List Entry) (k : Ends) (v : Flows) (c : IsCall es k v) → early_of (known_of es) ≡ size_of v + early_of (known_of c.rest)

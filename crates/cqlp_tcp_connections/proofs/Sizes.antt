@@ -6,7 +6,7 @@ use Rattle.cqlp_tcp_reassembly.specs.Segments.{Segment}
 use Rattle.cqlp_tcp_reassembly.proofs.Bounds.{size_acknowledgement, size_close, size_passed, size_segment}
 use Rattle.cqlp_tcp_connections.specs.declared.ends.Way.{Way}
 use Rattle.cqlp_tcp_connections.specs.declared.ends.Way.TheVariants.{Requests, Responses}
-use Rattle.cqlp_tcp_connections.specs.declared.delivery.Delivery.{Delivery}
+use Rattle.cqlp_tcp_connections.specs.declared.delivery.WayStep.{WayStep}
 use Rattle.cqlp_tcp_connections.specs.Ends.{other}
 use Rattle.cqlp_tcp_connections.specs.Sides as sides
 use Rattle.cqlp_tcp_connections.specs.Sides.{SideState}
@@ -29,7 +29,7 @@ answered_if : (b : Bool) (x y : Delivering) (n : ℕ) → size_of x.after ≤ n 
 answered_if true x y n p q = p
 answered_if false x y n p q = q
 
-next_size : (o : Option Delivery) (t : Delivering) (next : Flows → Delivering) (n : ℕ) → size_of t.after ≤ n → size_of (next t.after).after ≤ n → size_of (or_next_as o t next).after ≤ n
+next_size : (o : Option WayStep) (t : Delivering) (next : Flows → Delivering) (n : ℕ) → size_of t.after ≤ n → size_of (next t.after).after ≤ n → size_of (or_next_as o t next).after ≤ n
 next_size None t next n p q = q
 next_size (Some delivered) t next n p q = p
 
@@ -72,7 +72,7 @@ pub counted_size : (way : Way) (f : Flows) → size_of (counted_on way f) ≡ si
 counted_size Requests f = refl
 counted_size Responses f = refl
 
-pub pull_sized : {E : Type 0} (r : Result (Option Delivery) E) (way : Way) (g : Seen) (time : Option ℕ) (room : ℕ) (old new : Flows)
+pub pull_sized : {E : Type 0} (r : Result (Option WayStep) E) (way : Way) (g : Seen) (time : Option ℕ) (room : ℕ) (old new : Flows)
     → IfOk r (λ delivered. delivering delivered new ≡ pulled way g time room old) → OnErr r (new ≡ pull_refused way g time old) → size_of new ≤ room + size_of old
 pull_sized (Ok delivered) way g time room old new e f =
     subst (λ (t : Delivering). size_of t.after ≤ room + size_of old) (sym e) (pulled_size way g time room old)
@@ -95,7 +95,7 @@ answered_side true way of number f n q =
     side_with way of (sides.acknowledged (side_of way f) number).after f n (λ p. omega (arith, h, p)) q
 answered_side false way of number f n q = q
 
-next_side : (o : Option Delivery) (t : Delivering) (next : Flows → Delivering) (of : Way) (n : ℕ)
+next_side : (o : Option WayStep) (t : Delivering) (next : Flows → Delivering) (of : Way) (n : ℕ)
     → sides.size_of (side_of of t.after) ≤ n → sides.size_of (side_of of (next t.after).after) ≤ n → sides.size_of (side_of of (or_next_as o t next).after) ≤ n
 next_side None t next of n p q = q
 next_side (Some delivered) t next of n p q = p

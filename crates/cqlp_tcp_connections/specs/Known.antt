@@ -11,7 +11,7 @@ use Rattle.cqlp_tcp_connections.specs.declared.ends.Ends.{Ends}
 use Rattle.cqlp_tcp_connections.specs.declared.ends.Way.{Way}
 use Rattle.cqlp_tcp_connections.specs.declared.ends.Way.TheVariants.{Requests, Responses}
 use Rattle.cqlp_tcp_connections.specs.declared.side.SideStep.{SideStep}
-use Rattle.cqlp_tcp_connections.specs.declared.delivery.Delivery.{Delivery}
+use Rattle.cqlp_tcp_connections.specs.declared.delivery.WayStep.{WayStep}
 use Rattle.cqlp_tcp_connections.specs.declared.totals.Begin.{Begin}
 use Rattle.cqlp_tcp_connections.specs.declared.totals.Begin.TheVariants as begin
 use Rattle.cqlp_tcp_connections.specs.declared.totals.End.{End}
@@ -98,10 +98,10 @@ begins_anew way h k =
 
 -- what is delivered, and the connection after it
 pub record Delivering : Type 0 where
-  pub delivered : Option Delivery
+  pub delivered : Option WayStep
   pub after : Flows
 
-abbrev pub delivering : Option Delivery → Flows → Delivering
+abbrev pub delivering : Option WayStep → Flows → Delivering
 delivering t k = record { delivered = t; after = k }
 
 abbrev pub is_done : StreamStep → Bool
@@ -114,14 +114,14 @@ is_done step.Ended = false
 is_done step.Reset = false
 is_done step.Done = true
 
-abbrev pub deliver : (number : ℕ) → Way → SideStep → Option Delivery
+abbrev pub deliver : (number : ℕ) → Way → SideStep → Option WayStep
 deliver n way s = if is_done s.step then None else Some (record { number = n; way = way; at = s.at; step = s.step })
 
 abbrev pub delivered_of : Way → SideDelivery → Flows → Delivering
 delivered_of way t k = delivering (deliver k.number way t.what) (with_side way t.after k)
 
 -- if nothing is delivered, what comes next is
-abbrev pub or_next_as : Option Delivery → Delivering → (Flows → Delivering) → Delivering
+abbrev pub or_next_as : Option WayStep → Delivering → (Flows → Delivering) → Delivering
 or_next_as None t next = next t.after
 or_next_as (Some delivered) t next = t
 
@@ -129,9 +129,9 @@ abbrev pub or_next : Delivering → (Flows → Delivering) → Delivering
 or_next t next = or_next_as t.delivered t next
 
 -- the bytes that it names lie in a payload of this length
-abbrev pub IsDeliveryWithin : Option Delivery → (len : ℕ) → Type 0
-IsDeliveryWithin None len = ⊤
-IsDeliveryWithin (Some t) len = IsWithin t.step len
+abbrev pub IsStepWithin : Option WayStep → (len : ℕ) → Type 0
+IsStepWithin None len = ⊤
+IsStepWithin (Some t) len = IsWithin t.step len
 
 -- what the header says, with how many bytes of the payload were not captured (as numbers of a sequence, which wrap)
 abbrev pub control_of : SegmentHead → (missing : ℕ) → Control

@@ -1,7 +1,7 @@
 -- The table of connections.
 use Rattle.std.specs.Prelude.{ℕ, ◌+◌, ◌-◌, ◌&&◌, Bool, true, false, List, [], ◌∷◌, ◌++◌, length, take, drop, min, nat_lt}
 use Rattle.std.specs.List.{position, remove}
-use Rattle.std.specs.Prelude.{Option, Some, None, if◌then◌else◌}
+use Rattle.std.specs.Prelude.{Option, Some, None, if◌then◌else◌, ⊤}
 use Rattle.cqlp_tcp_segment.specs.declared.segments.SegmentHead.{SegmentHead}
 use Rattle.cqlp_tcp_segment.specs.Segment.{Seen}
 use Rattle.cqlp_tcp_reassembly.specs.declared.step.GapCause.TheVariants.{Lost, Snapped}
@@ -17,6 +17,7 @@ use Rattle.cqlp_tcp_connections.specs.declared.delivery.Departure.TheVariants as
 use Rattle.cqlp_tcp_connections.specs.declared.delivery.Admission.{Admission}
 use Rattle.cqlp_tcp_connections.specs.declared.delivery.Admission.TheVariants.{Foreign, Taken, Crowded}
 use Rattle.cqlp_tcp_connections.specs.declared.delivery.Delivery.{Delivery}
+use Rattle.cqlp_tcp_connections.specs.declared.delivery.WayStep.{WayStep}
 use Rattle.cqlp_tcp_connections.specs.declared.totals.ConnectionCounts.{ConnectionCounts}
 use Rattle.cqlp_tcp_connections.specs.Ends.{ends_of, first_way, other, same_ends, way_between}
 use Rattle.cqlp_tcp_connections.specs.Totals.{counted}
@@ -70,6 +71,16 @@ abbrev pub first_becomes : (Flows → Flows) → List Known → List Known
 first_becomes f [] = []
 first_becomes f (k ∷ ks) = known k.ends (f k.flows) ∷ ks
 
+-- what is delivered of a connection between these ends
+abbrev pub between : Ends → Option WayStep → Option Delivery
+between e None = None
+between e (Some s) = Some (record { number = s.number; ends = e; way = s.way; at = s.at; step = s.step })
+
+-- the bytes that it names lie in a payload of this length
+abbrev pub IsDeliveryWithin : Option Delivery → (len : ℕ) → Type 0
+IsDeliveryWithin None len = ⊤
+IsDeliveryWithin (Some t) len = streams.IsWithin t.step len
+
 pub record FirstDelivering : Type 0 where
   pub delivered : Option Delivery
   pub after : List Known
@@ -79,7 +90,7 @@ first_delivering delivered ks = record { delivered = delivered; after = ks }
 
 abbrev pub first_delivers : (Flows → Delivering) → List Known → FirstDelivering
 first_delivers f [] = first_delivering None []
-first_delivers f (k ∷ ks) = first_delivering (f k.flows).delivered (known k.ends (f k.flows).after ∷ ks)
+first_delivers f (k ∷ ks) = first_delivering (between k.ends (f k.flows).delivered) (known k.ends (f k.flows).after ∷ ks)
 
 -- ---- whose a segment is
 
@@ -228,7 +239,7 @@ left_by (Some delivered) k ks t = departing (departure.Delivery delivered) (with
 left_by None k ks t = departing (departure.Left (totals_of k)) (with_leaving false (with_known ks t))
 
 abbrev pub left_as : Delivering → Ends → List Known → Table → Departing
-left_as f e ks t = left_by f.delivered (known e f.after) ks t
+left_as f e ks t = left_by (between e f.delivered) (known e f.after) ks t
 
 abbrev pub left_in : List Known → Table → Departing
 left_in [] t = departing departure.Empty t

@@ -4,9 +4,9 @@ ghost use Rattle.std.specs.Prelude.{◌≡◌, ◌+◌, ◌<◌, ◌^◌, ℕ, I
 ghost use Rattle.cqlp_tcp_reassembly.specs.Segments.{captured};
 ghost use Rattle.cqlp_tcp_reassembly.specs.Streams.{held};
 ghost use Rattle.cqlp_tcp_segment.specs.Segment.{seen};
-ghost use Rattle.cqlp_tcp_connections.specs.Known.{IsDeliveryWithin, control_of, deliver};
+ghost use Rattle.cqlp_tcp_connections.specs.Known.{IsStepWithin, control_of, deliver};
 
-use crate::delivery::Delivery;
+use crate::delivery::WayStep;
 use crate::ends::{Ends, Way};
 use crate::side::{Side, SideStep};
 use crate::totals::{Begin, ConnectionTotals, DirectionTotals, End};
@@ -114,11 +114,11 @@ impl<A: Allocator> Connection<A> {
         segment: &Segment<'_>,
         time: Option<u64>,
         room: usize,
-    ) -> Result<Option<Delivery>, AllocError>
+    ) -> Result<Option<WayStep>, AllocError>
     where
         A: Clone,
         ensures delivered { IfOk result (λ delivered. delivering delivered self.new ≡ pulled way (seen segment.now) time room self.old) }
-        ensures within { IfOk result (λ delivered. IsDeliveryWithin delivered (length segment.now.payload.now)) }
+        ensures within { IfOk result (λ delivered. IsStepWithin delivered (length segment.now.payload.now)) }
         ensures refused { OnErr result (self.new ≡ pull_refused way (seen segment.now) time self.old) }
     {
         let head = &segment.head;
@@ -192,11 +192,11 @@ impl<A: Allocator> Connection<A> {
         way: Way,
         segment: &StreamSegment<'_>,
         room: usize,
-    ) -> Result<Option<Delivery>, AllocError>
+    ) -> Result<Option<WayStep>, AllocError>
     where
         A: Clone,
         ensures delivered { IfOk result (λ delivered. delivering delivered self.new ≡ taken way (captured segment.now) room self.old) }
-        ensures within { IfOk result (λ delivered. IsDeliveryWithin delivered (length segment.now.payload.now)) }
+        ensures within { IfOk result (λ delivered. IsStepWithin delivered (length segment.now.payload.now)) }
         ensures refused { OnErr result (self.new ≡ refused way (captured segment.now) self.old) }
     {
         let step = match way {
@@ -207,7 +207,7 @@ impl<A: Allocator> Connection<A> {
     }
 
     /// The next report of this way for an acknowledgement.
-    fn acknowledge(&mut self, way: Way, number: u32) -> Option<Delivery>
+    fn acknowledge(&mut self, way: Way, number: u32) -> Option<WayStep>
         ensures { delivering result self.new ≡ acknowledged way number self.old }
     {
         let step = match way {
@@ -218,7 +218,7 @@ impl<A: Allocator> Connection<A> {
     }
 
     /// The next report where no more segments come: first of the requests.
-    pub(crate) fn close(&mut self) -> Option<Delivery>
+    pub(crate) fn close(&mut self) -> Option<WayStep>
         ensures { delivering result self.new ≡ closed self.old }
     {
         let delivered = self.close_way(Way::Requests);
@@ -228,7 +228,7 @@ impl<A: Allocator> Connection<A> {
         self.close_way(Way::Responses)
     }
 
-    fn close_way(&mut self, way: Way) -> Option<Delivery>
+    fn close_way(&mut self, way: Way) -> Option<WayStep>
         ensures { delivering result self.new ≡ closed_way way self.old }
     {
         let step = match way {
@@ -291,13 +291,13 @@ fn control_of(head: &SegmentHead, missing: usize) -> Control
 }
 
 /// What is reported of this way of the connection with this number, if that is not `Done`.
-fn deliver(number: u64, way: Way, step: SideStep) -> Option<Delivery>
+fn deliver(number: u64, way: Way, step: SideStep) -> Option<WayStep>
     ensures { result ≡ deliver number way step }
 {
     if matches!(step.step, StreamStep::Done) {
         return None;
     }
-    Some(Delivery {
+    Some(WayStep {
         number,
         way,
         at: step.at,

@@ -1,6 +1,9 @@
 //! What a table of connections reports.
 
-use crate::ends::Way;
+ghost use Rattle.std.specs.Prelude.{◌≡◌};
+ghost use Rattle.cqlp_tcp_connections.specs.Tables.{between};
+
+use crate::ends::{Ends, Way};
 use crate::totals::ConnectionTotals;
 use cqlp_tcp_reassembly::StreamStep;
 
@@ -21,11 +24,39 @@ pub enum Admission {
 pub struct Delivery {
     /// The number of the connection.
     pub number: u64,
+    /// The ends of the connection.
+    pub ends: Ends,
     pub way: Way,
     /// How many bytes and bytes of gaps were reported of the direction before; 2^64 - 1, if more.
     pub at: u64,
     /// What its stream reports, which is not `Done`. Of `Payload` the bytes are the segment's own; `Connections::held` lends those of `Held`.
     pub step: StreamStep,
+}
+
+/// What is reported of one direction of a connection whose ends its pool has.
+#[derive(Clone, Copy, Debug, PartialEq, Eq)]
+pub(crate) struct WayStep {
+    pub(crate) number: u64,
+    pub(crate) way: Way,
+    pub(crate) at: u64,
+    pub(crate) step: StreamStep,
+}
+
+/// What is reported of a connection between these ends.
+#[inline(always)]
+pub(crate) fn between(ends: Ends, step: Option<WayStep>) -> Option<Delivery>
+    ensures { result ≡ between ends step }
+{
+    match step {
+        Some(step) => Some(Delivery {
+            number: step.number,
+            ends,
+            way: step.way,
+            at: step.at,
+            step: step.step,
+        }),
+        None => None,
+    }
 }
 
 /// What is reported of a connection that leaves.

@@ -3,10 +3,10 @@
 ghost use Rattle.std.specs.Prelude.{◌≡◌, ◌∷◌, ◌<◌, ◌≤◌, [], IfOk, None, OnErr, OnOk, drop, length, nat_le, option_map, true};
 ghost use Rattle.std.specs.Map.Iter.{deref_pair};
 ghost use Rattle.cqlp_tcp_segment.specs.Segment.{seen};
-ghost use Rattle.cqlp_tcp_connections.specs.Known.{IsDeliveryWithin};
+ghost use Rattle.cqlp_tcp_connections.specs.Tables.{IsDeliveryWithin};
 
 use crate::connection::Connection;
-use crate::delivery::Delivery;
+use crate::delivery::{Delivery, between};
 use crate::ends::{Ends, Way};
 use crate::limits::ConnectionLimits;
 use cqlp_tcp_segment::Segment;
@@ -171,10 +171,10 @@ impl<A: Allocator> Pool<A> {
             return Ok(None);
         };
         let before = first.size();
-        let delivered = first.pull(way, segment, time, room);
+        let stepped = first.pull(way, segment, time, room);
         let after = first.size();
         self.early = self.early - before + after;
-        delivered
+        Ok(between(ends, stepped?))
     }
 
     /// That `pull` of a segment which goes this way of the first one reports nothing and changes nothing, as `Connection` says it.
@@ -196,10 +196,10 @@ impl<A: Allocator> Pool<A> {
         let ends = self.first_ends()?;
         let first = self.cache.peek_mut(&ends)?;
         let before = first.size();
-        let delivered = first.close();
+        let step = first.close();
         let after = first.size();
         self.early = self.early - before + after;
-        delivered
+        between(ends, step)
     }
 
     /// The next bytes of this way of the first one, which came before.

@@ -3,8 +3,7 @@
 ghost use Rattle.std.specs.Prelude.{◌≡◌, ◌↔◌, ◌==◌, ◌<◌, ◌≤◌, IfOk, IsErrOf, None, OnErr, false, length, true};
 ghost use Rattle.cqlp_tcp_segment.specs.Segment.{seen};
 ghost use Rattle.cqlp_tcp_connections.specs.Limits.{is_in_range};
-ghost use Rattle.cqlp_tcp_connections.specs.Known.{IsDeliveryWithin};
-ghost use Rattle.cqlp_tcp_connections.specs.Tables.{gives_up};
+ghost use Rattle.cqlp_tcp_connections.specs.Tables.{IsDeliveryWithin, gives_up};
 
 use crate::delivery::{Admission, Delivery, Departure};
 use crate::ends::{Way, ends_of, first_way};

@@ -2,7 +2,7 @@
 //! One connection.
 
 use crate::kit_host::prelude::{AllocGlobal, Clone, ToCopy};
-use crate::cqlp_tcp_connections::delivery::Delivery;
+use crate::cqlp_tcp_connections::delivery::WayStep;
 use crate::cqlp_tcp_connections::ends::{Ends, Way};
 use crate::cqlp_tcp_connections::side::{Side, SideStep};
 use crate::cqlp_tcp_connections::totals::{Begin, ConnectionTotals, DirectionTotals, End};
@@ -83,7 +83,7 @@ impl<A: Allocator> Connection<A> {
         segment: &Segment<'_>,
         time: Option<u64>,
         room: usize,
-    ) -> Result<Option<Delivery>, AllocError>
+    ) -> Result<Option<WayStep>, AllocError>
     where
         A: Clone,
     {
@@ -147,7 +147,7 @@ impl<A: Allocator> Connection<A> {
         way: Way,
         segment: &StreamSegment<'_>,
         room: usize,
-    ) -> Result<Option<Delivery>, AllocError>
+    ) -> Result<Option<WayStep>, AllocError>
     where
         A: Clone,
     {
@@ -159,7 +159,7 @@ impl<A: Allocator> Connection<A> {
     }
 
     /// The next report of this way for an acknowledgement.
-    fn acknowledge(&mut self, way: Way, number: u32) -> Option<Delivery> {
+    fn acknowledge(&mut self, way: Way, number: u32) -> Option<WayStep> {
         let step = match way {
             Way::Requests => self.requests.acknowledge(number),
             Way::Responses => self.responses.acknowledge(number),
@@ -168,7 +168,7 @@ impl<A: Allocator> Connection<A> {
     }
 
     /// The next report where no more segments come: first of the requests.
-    pub(crate) fn close(&mut self) -> Option<Delivery> {
+    pub(crate) fn close(&mut self) -> Option<WayStep> {
         let delivered = self.close_way(Way::Requests);
         if delivered.is_some() {
             return delivered;
@@ -176,7 +176,7 @@ impl<A: Allocator> Connection<A> {
         self.close_way(Way::Responses)
     }
 
-    fn close_way(&mut self, way: Way) -> Option<Delivery> {
+    fn close_way(&mut self, way: Way) -> Option<WayStep> {
         let step = match way {
             Way::Requests => self.requests.close(),
             Way::Responses => self.responses.close(),
@@ -227,11 +227,11 @@ fn control_of(head: &SegmentHead, missing: usize) -> Control {
 }
 
 /// What is reported of this way of the connection with this number, if that is not `Done`.
-fn deliver(number: u64, way: Way, step: SideStep) -> Option<Delivery> {
+fn deliver(number: u64, way: Way, step: SideStep) -> Option<WayStep> {
     if matches!(step.step, StreamStep::Done) {
         return None;
     }
-    Some(Delivery {
+    Some(WayStep {
         number,
         way,
         at: step.at,

@@ -1,7 +1,7 @@
 // Written by dist/erase from crates/cqlp_tcp_connections/src/delivery.rt.
 //! What a table of connections reports.
 
-use crate::cqlp_tcp_connections::ends::Way;
+use crate::cqlp_tcp_connections::ends::{Ends, Way};
 use crate::cqlp_tcp_connections::totals::ConnectionTotals;
 use crate::cqlp_tcp_reassembly::StreamStep;
 
@@ -22,11 +22,37 @@ pub enum Admission {
 pub struct Delivery {
     /// The number of the connection.
     pub number: u64,
+    /// The ends of the connection.
+    pub ends: Ends,
     pub way: Way,
     /// How many bytes and bytes of gaps were reported of the direction before; 2^64 - 1, if more.
     pub at: u64,
     /// What its stream reports, which is not `Done`. Of `Payload` the bytes are the segment's own; `Connections::held` lends those of `Held`.
     pub step: StreamStep,
+}
+
+/// What is reported of one direction of a connection whose ends its pool has.
+#[derive(Clone, Copy, Debug, PartialEq, Eq)]
+pub(crate) struct WayStep {
+    pub(crate) number: u64,
+    pub(crate) way: Way,
+    pub(crate) at: u64,
+    pub(crate) step: StreamStep,
+}
+
+/// What is reported of a connection between these ends.
+#[inline(always)]
+pub(crate) fn between(ends: Ends, step: Option<WayStep>) -> Option<Delivery> {
+    match step {
+        Some(step) => Some(Delivery {
+            number: step.number,
+            ends,
+            way: step.way,
+            at: step.at,
+            step: step.step,
+        }),
+        None => None,
+    }
 }
 
 /// What is reported of a connection that leaves.

@@ -17,9 +17,11 @@ pub enum Way {
 
 /// The ends of a connection.
 #[derive(Clone, Copy, Debug, PartialEq, Eq, Hash)]
-pub(crate) struct Ends {
-    pub(crate) client: Endpoint,
-    pub(crate) node: Endpoint,
+pub struct Ends {
+    /// From which requests come.
+    pub client: Endpoint,
+    /// From which responses come; its port is asked for.
+    pub node: Endpoint,
 }
 
 /// The ends of a segment that goes this way.

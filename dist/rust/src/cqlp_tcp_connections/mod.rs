@@ -13,7 +13,7 @@ mod tally;
 mod totals;
 
 pub use delivery::{Admission, Delivery, Departure};
-pub use ends::{DEFAULT_PORT, Way};
+pub use ends::{DEFAULT_PORT, Ends, Way};
 pub use limits::{ConnectionLimits, NewConnectionsError};
 pub use table::Connections;
 pub use totals::{Begin, ConnectionCounts, ConnectionTotals, DirectionTotals, End};

@@ -3,7 +3,7 @@
 
 use crate::kit_host::prelude::{AllocGlobal, Clone, ToCopy};
 use crate::cqlp_tcp_connections::connection::Connection;
-use crate::cqlp_tcp_connections::delivery::Delivery;
+use crate::cqlp_tcp_connections::delivery::{Delivery, between};
 use crate::cqlp_tcp_connections::ends::{Ends, Way};
 use crate::cqlp_tcp_connections::limits::ConnectionLimits;
 use crate::cqlp_tcp_segment::Segment;
@@ -121,10 +121,10 @@ impl<A: Allocator> Pool<A> {
             return Ok(None);
         };
         let before = first.size();
-        let delivered = first.pull(way, segment, time, room);
+        let stepped = first.pull(way, segment, time, room);
         let after = first.size();
         self.early = self.early - before + after;
-        delivered
+        Ok(between(ends, stepped?))
     }
 
     /// That `pull` of a segment which goes this way of the first one reports nothing and changes nothing, as `Connection` says it.
@@ -141,10 +141,10 @@ impl<A: Allocator> Pool<A> {
         let ends = self.first_ends()?;
         let first = self.cache.peek_mut(&ends)?;
         let before = first.size();
-        let delivered = first.close();
+        let step = first.close();
         let after = first.size();
         self.early = self.early - before + after;
-        delivered
+        between(ends, step)
     }
 
     /// The next bytes of this way of the first one, which came before.

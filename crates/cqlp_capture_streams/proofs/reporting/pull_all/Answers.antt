@@ -1,8 +1,7 @@
 use Rattle.std.proofs.Common.{rules, Err, Ok, Option, arith, inl, refl, length, ◌-◌, ◌^◌, ◌≡◌, [], ◌∷◌, ◌++◌, subst, sym}
 use Rattle.cqlp_tcp_segment.specs.Segment.{seen}
 use Rattle.cqlp_tcp_connections.specs.declared.delivery.Delivery.{Delivery}
-use Rattle.cqlp_tcp_connections.specs.Known.{IsDeliveryWithin}
-use Rattle.cqlp_tcp_connections.specs.Tables.{pulled, pulling}
+use Rattle.cqlp_tcp_connections.specs.Tables.{IsDeliveryWithin, pulled, pulling}
 use Rattle.cqlp_capture_streams.specs.ConnectionEvents.{Of}
 use Rattle.cqlp_capture_streams.specs.Reportings.{Pulls}
 use Rattle.cqlp_capture_streams.proofs.Paths.{path_more}

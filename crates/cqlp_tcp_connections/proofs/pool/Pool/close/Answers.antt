@@ -1,6 +1,6 @@
-use Rattle.std.proofs.Common.{◌≡◌, ◌≤◌, subst, sym, arith}
+use Rattle.std.proofs.Common.{◌≡◌, ◌≤◌, ap, subst, sym, ◌∙◌, arith}
 use Rattle.std.specs.Map.{set_value}
-use Rattle.cqlp_tcp_connections.specs.Tables.{first_delivering, first_delivers}
+use Rattle.cqlp_tcp_connections.specs.Tables.{between, first_delivering, first_delivers}
 use Rattle.cqlp_tcp_connections.specs.Pools.{PoolState, known_of}
 use Rattle.cqlp_tcp_connections.proofs.Entries.{IsCall, call_less, call_sum, call_delivers, eq_ends, is_call, no_call}
 use Rattle.cqlp_tcp_connections.specs.Known.{Delivering, closed, size_of}
@@ -26,7 +26,7 @@ size-after-requires g c =
     let call : IsCall es k v = is_call es i.limits c.args.self.now k c.first_ends.result v c.self.view_is c.in_ok-ends.was c.first_ends.ensures c.in_ok-first.ensures.value in
     let less = call_less es k v i.early call c.self.invariant.1 in
     let most = c.self.invariant.2 in
-    let sized = subst (λ (t : Delivering). size_of t.after ≤ size_of v) (sym c.close-delivered.ensures) (closed_size v) in
+    let sized = subst (λ (t : Delivering). size_of t.after ≤ size_of v) (sym c.close-step.ensures) (closed_size v) in
     omega (arith, less, most, sized)
 
 pub overflow_sub-self : goal.overflow_sub-self
@@ -51,7 +51,7 @@ overflow_add-self g c =
     let most = c.self.invariant.2 in
     let before = c.size-before.ensures in
     let after = c.size-after.ensures in
-    let sized = subst (λ (t : Delivering). size_of t.after ≤ size_of v) (sym c.close-delivered.ensures) (closed_size v) in
+    let sized = subst (λ (t : Delivering). size_of t.after ≤ size_of v) (sym c.close-step.ensures) (closed_size v) in
     omega (arith, less, most, before, after, sized)
 
 pub invariant_of-self-2 : goal.invariant_of-self-2
@@ -66,7 +66,7 @@ invariant_of-self-2 g c =
     let less = call_less es k v i.early call inv.1 in
     let before = c.size-before.ensures in
     let after = c.size-after.ensures in
-    let sized = subst (λ (t : Delivering). size_of t.after ≤ size_of v) (sym c.close-delivered.ensures) (closed_size v) in
+    let sized = subst (λ (t : Delivering). size_of t.after ≤ size_of v) (sym c.close-step.ensures) (closed_size v) in
     (inv.0, call_sum es k v _ i.early c.size-before.result c.size-after.result call inv.1 before after, omega (arith, less, most, before, after, sized))
 
 pub returns-clause-delivered : goal.returns-clause-delivered
@@ -76,9 +76,11 @@ returns-clause-delivered g c =
     let k = c.in_ok-ends.ends in
     let v = c.in_ok-first.first.now in
     let call : IsCall es k v = is_call es i.limits c.args.self.now k c.first_ends.result v c.self.view_is c.in_ok-ends.was c.first_ends.ensures c.in_ok-first.ensures.value in
-    let w = c.close-delivered.new.self in
-    subst (λ (p : PoolState). first_delivering c.close-delivered.result (known_of (set_value (eq_ends k) es w)) ≡ first_delivers closed p.known) c.self.view_is
-    (call_delivers closed es k v w c.close-delivered.result call c.close-delivered.ensures)
+    let w = c.close-step.new.self in
+    let step = c.close-step.result in
+    ap (λ d. first_delivering d (known_of (set_value (eq_ends k) es w))) c.between.ensures
+    ∙ subst (λ (p : PoolState). first_delivering (between k step) (known_of (set_value (eq_ends k) es w)) ≡ first_delivers closed p.known) c.self.view_is
+    (call_delivers closed es k v w step call c.close-step.ensures)
 
 pub returns-in_err-first-clause-delivered : goal.returns-in_err-first-clause-delivered
 returns-in_err-first-clause-delivered g c =
