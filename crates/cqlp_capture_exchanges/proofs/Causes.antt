@@ -12,13 +12,14 @@ use Rattle.cqlp_capture_streams.specs.Streams.{ReadsCapture}
 use Rattle.cqlp_capture_streams.specs.Buffers.{Buffers}
 use Rattle.cqlp_capture_streams.proofs.Finished.{buffered_cause}
 use Rattle.cqlp_capture_streams.proofs.Causes.{EndedBy, EndedIfFault, FailsSo, ended_noted, fault_cause, none_failed}
+use Rattle.cqlp_capture_exchanges.specs.declared.connection.Connection.{Connection}
 use Rattle.cqlp_capture_exchanges.specs.declared.filter.ExchangeFilter.{ExchangeFilter}
 use Rattle.cqlp_capture_exchanges.specs.declared.form.ExchangeForm.{ExchangeForm}
 use Rattle.cqlp_capture_exchanges.specs.declared.pool.ExchangeLimits.{ExchangeLimits}
 use Rattle.cqlp_capture_exchanges.specs.Reports.{Report}
 use Rattle.cqlp_capture_exchanges.specs.Accounts.{Account, StopsAmong, with_all, with_count, with_reported}
 use Rattle.cqlp_capture_exchanges.specs.Filters.{shows}
-use Rattle.cqlp_capture_exchanges.specs.Listening.{Listening, StopsAt, account_at, change_of, new_listening, number_of, with_connection_event}
+use Rattle.cqlp_capture_exchanges.specs.Listening.{Listening, StopsAt, account_at, change_of, new_listening, connection_of, with_connection_event}
 use Rattle.cqlp_capture_exchanges.specs.Losses.{losses_of, note_text}
 use Rattle.cqlp_capture_exchanges.specs.Capturing.{Closes, FaultsHaveCauses, last_words}
 
@@ -28,10 +29,10 @@ either : (b : Bool) (x y : Account) (n : ℕ) → x.output.failures ≡ n → y.
 either true x y n p q = p
 either false x y n p q = q
 
-reported_keeps : (n : ℕ) (t : Report) (a : Account) → (with_reported n t a).output.failures ≡ a.output.failures
-reported_keeps n t a = either (shows a.filter n t) _ (with_count t a) a.output.failures refl refl
+reported_keeps : (n : Connection) (t : Report) (a : Account) → (with_reported n t a).output.failures ≡ a.output.failures
+reported_keeps n t a = either (shows a.filter n.number t) _ (with_count t a) a.output.failures refl refl
 
-all_keeps : (n : ℕ) (ts : List Report) (a : Account) → (with_all n ts a).output.failures ≡ a.output.failures
+all_keeps : (n : Connection) (ts : List Report) (a : Account) → (with_all n ts a).output.failures ≡ a.output.failures
 all_keeps n [] a = refl
 all_keeps n (t ∷ ts) a = all_keeps n ts (with_reported n t a) ∙ reported_keeps n t a
 
@@ -45,13 +46,13 @@ abbrev failures_of : Listening → ℕ
 failures_of w = w.account.output.failures
 
 keeps : (v : Listening) (s : ConnectionEvent) → failures_of (with_connection_event v s) ≡ failures_of v
-keeps v s = all_keeps (number_of s) (change_of s v).reports (account_at s v.account) ∙ at_keeps s v.account
+keeps v s = all_keeps (connection_of s) (change_of s v).reports (account_at s v.account) ∙ at_keeps s v.account
 
-among : (n : ℕ) (ts : List Report) (a b : Account) → StopsAmong n ts a b → b.output.failures ≡ counted true a.output.failures
+among : (n : Connection) (ts : List Report) (a b : Account) → StopsAmong n ts a b → b.output.failures ≡ counted true a.output.failures
 among n ts a b x = x.stops.within.failures ∙ ap (λ k. counted true k) (all_keeps n x.front a)
 
 stops : (v w : Listening) (s : ConnectionEvent) (e : StreamsFault) → StopsAt v s e w → FailsSo e (failures_of v) (failures_of w)
-stops v w s fault.Write a = among (number_of s) (change_of s v).reports v.account w.account a
+stops v w s fault.Write a = among (connection_of s) (change_of s v).reports v.account w.account a
 stops v w s fault.Read a = absurd a
 stops v w s fault.NoMemory a = tt
 stops v w s fault.TooManyTurns a = absurd a

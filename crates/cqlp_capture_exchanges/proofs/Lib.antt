@@ -2,7 +2,8 @@ pub mod Accounts
 pub mod Causes
 pub mod Heard
 pub mod Known
-pub mod Members
+pub mod Ends
+mod Members
 pub mod Missing
 pub mod Talks
 pub mod Texts

@@ -10,6 +10,7 @@ use Rattle.cqlp_observer.specs.declared.message.Message.{Message}
 use Rattle.cqlp_observer.specs.declared.paired.Paired.{Paired}
 use Rattle.cqlp_observer.specs.declared.paired.Paired.TheVariants.{Exchange, Unanswered, Unasked, Event}
 use Rattle.cqlp_tcp_connections.specs.Totals.{counted}
+use Rattle.cqlp_capture_exchanges.specs.declared.connection.Connection.{Connection}
 use Rattle.cqlp_capture_exchanges.specs.declared.filter.ExchangeFilter.{ExchangeFilter}
 use Rattle.cqlp_capture_exchanges.specs.declared.form.ExchangeForm.{ExchangeForm}
 use Rattle.cqlp_capture_exchanges.specs.Prepared.{known_after, Preparation}
@@ -73,38 +74,38 @@ with_output o a = account a.filter a.form a.first a.known a.summary a.sums o
 abbrev pub with_note : Report → Account → Account
 with_note t a = account a.filter a.form a.first a.known (noted_in a.form a.known t a.summary) a.sums a.output
 
-abbrev pub with_line : (number : ℕ) → Report → Account → Account
-with_line n t a = if shows a.filter n t then with_output (with_text a.output (text_of a.form a.known a.first n t)) (with_note t a) else a
+abbrev pub with_line : Connection → Report → Account → Account
+with_line n t a = if shows a.filter n.number t then with_output (with_text a.output (text_of a.form a.known a.first n t)) (with_note t a) else a
 
-abbrev pub with_shown : (number : ℕ) → Report → Account → Account
+abbrev pub with_shown : Connection → Report → Account → Account
 with_shown n t a = with_line n t (with_count t a)
 
 -- A statement that is prepared is known from then on.
 abbrev pub learned : Report → Account → Account
 learned t a = account a.filter a.form a.first (known_after t a.known) a.summary a.sums a.output
 
-abbrev pub with_reported : (number : ℕ) → Report → Account → Account
+abbrev pub with_reported : Connection → Report → Account → Account
 with_reported n t a = learned t (with_shown n t a)
 
 -- all of it, in order
-abbrev pub with_all : (number : ℕ) → List Report → Account → Account
+abbrev pub with_all : Connection → List Report → Account → Account
 with_all n [] a = a
 with_all n (t ∷ ts) a = with_all n ts (with_reported n t a)
 
 -- ---- a fault
 
 -- It is shown, and the output failed within its text.
-pub record Stops (n : ℕ) (t : Report) (old new : Account) : Type 0 where
-  pub is_shown : shows old.filter n t ≡ true
+pub record Stops (n : Connection) (t : Report) (old new : Account) : Type 0 where
+  pub is_shown : shows old.filter n.number t ≡ true
   pub rest : new ≡ with_output new.output (with_note t (with_count t old))
   pub within : StopsWithin old.output (text_of old.form old.known old.first n t) new.output
 
-abbrev pub ReportsOne : (number : ℕ) → Report → Account → Result (Unit {0}) SinkFault → Account → Type 0
+abbrev pub ReportsOne : Connection → Report → Account → Result (Unit {0}) SinkFault → Account → Type 0
 ReportsOne n t old (Ok u) new = new ≡ with_shown n t old
 ReportsOne n t old (Err e) new = Stops n t old new
 
 -- The output failed within the text of one of these, after all before it.
-pub record StopsAmong (n : ℕ) (ts : List Report) (old new : Account) : Type 0 where
+pub record StopsAmong (n : Connection) (ts : List Report) (old new : Account) : Type 0 where
   pub front : List Report
   pub one : Report
   pub rest : List Report
@@ -112,24 +113,24 @@ pub record StopsAmong (n : ℕ) (ts : List Report) (old new : Account) : Type 0 
   pub stops : Stops n one (with_all n front old) new
 
 -- The first of these were reported, and memory for more was refused.
-pub record EndsAmong (n : ℕ) (ts : List Report) (old new : Account) : Type 0 where
+pub record EndsAmong (n : Connection) (ts : List Report) (old new : Account) : Type 0 where
   pub front : List Report
   pub rest : List Report
   pub parts : ts ≡ front ++ rest
   pub accounted : new ≡ with_all n front old
 
-abbrev pub FailsAmong : StreamsFault → (number : ℕ) → List Report → Account → Account → Type 0
+abbrev pub FailsAmong : StreamsFault → Connection → List Report → Account → Account → Type 0
 FailsAmong fault.Write n ts old new = StopsAmong n ts old new
 FailsAmong fault.NoMemory n ts old new = EndsAmong n ts old new
 FailsAmong e n ts old new = ⊥
 
 -- All were reported, or not for one of these reasons.
-abbrev pub ReportsAll : (number : ℕ) → List Report → Account → Result (Unit {0}) StreamsFault → Account → Type 0
+abbrev pub ReportsAll : Connection → List Report → Account → Result (Unit {0}) StreamsFault → Account → Type 0
 ReportsAll n ts old (Ok u) new = new ≡ with_all n ts old
 ReportsAll n ts old (Err e) new = FailsAmong e n ts old new
 
 -- Where it is known what the output was given.
-abbrev pub ReportedAll : (number : ℕ) → List Report → Account → Result (Unit {0}) StreamsFault → Account → Type 0
+abbrev pub ReportedAll : Connection → List Report → Account → Result (Unit {0}) StreamsFault → Account → Type 0
 ReportedAll n ts old r new = IsSome old.output.given → ReportsAll n ts old r new
 
 -- ---- the end: what is written then, or the output failed within it

@@ -2,6 +2,7 @@
 use Rattle.std.specs.Prelude.{ℕ, List, [], Option}
 use Rattle.cqlp_capture_summary.specs.Lines.{summary_text}
 use Rattle.cqlp_capture_summary.specs.Summaries.{Summary}
+use Rattle.cqlp_capture_exchanges.specs.declared.connection.Connection.{Connection}
 use Rattle.cqlp_capture_exchanges.specs.declared.form.ExchangeForm.{ExchangeForm}
 use Rattle.cqlp_capture_exchanges.specs.declared.form.ExchangeForm.TheVariants as form
 use Rattle.cqlp_capture_exchanges.specs.Prepared.{Preparation}
@@ -11,8 +12,8 @@ use Rattle.cqlp_capture_exchanges.specs.Notings.{with_report}
 use Rattle.cqlp_capture_exchanges.specs.Objects.{json_line}
 
 -- what is written of a report
-abbrev pub text_of : ExchangeForm → (known : List Preparation) → (first : Option ℕ) → (number : ℕ) → Report → List ℕ
-text_of form.Lines known first n r = line known first n r
+abbrev pub text_of : ExchangeForm → (known : List Preparation) → (first : Option ℕ) → Connection → Report → List ℕ
+text_of form.Lines known first n r = line known first n.number r
 text_of form.Json known first n r = json_line known first n r
 text_of (form.Summary naming) known first n r = []
 

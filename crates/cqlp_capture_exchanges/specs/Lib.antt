@@ -1,3 +1,4 @@
+pub mod Connections
 pub mod Spans
 pub mod Times
 pub mod Filters
@@ -6,6 +7,7 @@ pub mod Replies
 pub mod Reports
 pub mod Prepared
 pub mod Lines
+pub mod Ends
 pub mod Members
 pub mod Objects
 pub mod Notings

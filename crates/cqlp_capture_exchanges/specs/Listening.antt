@@ -4,10 +4,12 @@ use Rattle.cqlp_text.specs.Outputs.{Output}
 use Rattle.cqlp_capture_summary.specs.Summaries.{new_summary}
 use Rattle.cqlp_capture_streams.specs.declared.fault.StreamsFault.{StreamsFault}
 use Rattle.cqlp_capture_streams.specs.ConnectionEvents.{ConnectionEvent, Packet, New, Of, Left}
+use Rattle.cqlp_capture_exchanges.specs.declared.connection.Connection.{Connection}
 use Rattle.cqlp_capture_exchanges.specs.declared.filter.ExchangeFilter.{ExchangeFilter}
 use Rattle.cqlp_capture_exchanges.specs.declared.form.ExchangeForm.{ExchangeForm}
 use Rattle.cqlp_capture_exchanges.specs.declared.pool.ExchangeLimits.{ExchangeLimits}
 use Rattle.cqlp_capture_exchanges.specs.Accounts.{Account, FailsAmong, account, no_sums, since, with_all}
+use Rattle.cqlp_capture_exchanges.specs.Connections.{of_delivery, of_totals, unreported}
 use Rattle.cqlp_capture_exchanges.specs.Forms.{statements_in}
 use Rattle.cqlp_capture_exchanges.specs.Tables.{Change, Table, begins, change, leaves, new_table, takes_delivery}
 
@@ -32,11 +34,11 @@ change_of (New n) w = begins n w.table
 change_of (Of delivered bytes) w = takes_delivery w.present delivered bytes w.table
 change_of (Left totals) w = leaves totals w.table
 
-abbrev pub number_of : ConnectionEvent → ℕ
-number_of (Packet time) = 0
-number_of (New n) = n
-number_of (Of delivered bytes) = delivered.number
-number_of (Left totals) = totals.number
+abbrev pub connection_of : ConnectionEvent → Connection
+connection_of (Packet time) = unreported 0
+connection_of (New n) = unreported n
+connection_of (Of delivered bytes) = of_delivery delivered
+connection_of (Left totals) = of_totals totals
 
 abbrev pub present_after : ConnectionEvent → (before : Option ℕ) → Option ℕ
 present_after (Packet time) before = time
@@ -47,7 +49,7 @@ account_at (Packet time) a = since time a
 account_at s a = a
 
 abbrev pub after_change : Change → ConnectionEvent → Listening → Listening
-after_change x s w = listening x.table (present_after s w.present) (with_all (number_of s) x.reports (account_at s w.account))
+after_change x s w = listening x.table (present_after s w.present) (with_all (connection_of s) x.reports (account_at s w.account))
 
 abbrev pub with_connection_event : Listening → ConnectionEvent → Listening
 with_connection_event w s = after_change (change_of s w) s w
@@ -55,7 +57,7 @@ with_connection_event w s = after_change (change_of s w) s w
 -- ---- a fault: the output failed within the text of a report, or memory was refused, after all reports before
 
 abbrev pub StopsAt : Listening → ConnectionEvent → StreamsFault → Listening → Type 0
-StopsAt old s e new = FailsAmong e (number_of s) (change_of s old).reports old.account new.account
+StopsAt old s e new = FailsAmong e (connection_of s) (change_of s old).reports old.account new.account
 
 abbrev pub Hears : Listening → ConnectionEvent → Result (Unit {0}) StreamsFault → Listening → Type 0
 Hears old s (Ok u) new = new ≡ with_connection_event old s

@@ -1,14 +1,16 @@
 -- Members of JSON objects: their keys and values (RFC 8259).
-use Rattle.std.specs.Prelude.{ℕ, ℤ, ◌/◌, ◌%◌, nat_lt, List, [], ◌∷◌, ◌++◌, codes, decimal, Option, Some, None, if◌then◌else◌}
+use Rattle.std.specs.Prelude.{ℕ, ℤ, pos, ◌+◌, ◌/◌, ◌%◌, ◌^◌, nat_lt, List, [], ◌∷◌, ◌++◌, codes, decimal, Option, Some, None, if◌then◌else◌}
 use Rattle.std.specs.Fmt.{signed_decimal}
 use Rattle.uuid.specs.Text.{hyphenated_text, lower}
 use Rattle.cqlp_note.specs.Heading.{beside_number}
-use Rattle.cqlp_text.specs.CellText.{boolean_text, digits}
+use Rattle.cqlp_text.specs.CellText.{boolean_text, date_text, digits, time_text}
 use Rattle.cqlp_json.specs.Values.{hex, string, word}
+use Rattle.cqlp_tcp_segment.specs.declared.addresses.Endpoint.{Endpoint}
 use Rattle.cqlp_capture_exchanges.specs.declared.member.Member.{Member}
 use Rattle.cqlp_capture_exchanges.specs.declared.member.Value.{Value}
 use Rattle.cqlp_capture_exchanges.specs.declared.member.Value.TheVariants as value
 use Rattle.cqlp_capture_exchanges.specs.declared.span.Span.{Span}
+use Rattle.cqlp_capture_exchanges.specs.Ends.{end_text}
 use Rattle.cqlp_capture_exchanges.specs.Replies.{consistency_names}
 use Rattle.cqlp_capture_exchanges.specs.Times.{joined, sign}
 
@@ -28,6 +30,20 @@ abbrev pub seconds : Span → List ℕ
 seconds s =
     joined (quote s.nanoseconds ∷ sign s.is_before ∷ decimal (s.nanoseconds / 1_000_000_000) ∷ codes "."
     ∷ digits 9 (s.nanoseconds % 1_000_000_000) ∷ quote s.nanoseconds ∷ [])
+
+-- nanoseconds since 1970-01-01 00:00:00 UTC as a date and a time of day (ISO 8601), between quotes
+abbrev pub utc : ℕ → List ℕ
+utc t =
+    joined (codes "\"" ∷ date_text (2 ^ 31 + t / 86_400_000_000_000) ∷ codes "T" ∷ time_text (pos (t % 86_400_000_000_000))
+    ∷ codes "Z\"" ∷ [])
+
+abbrev pub utc_or_null : Option ℕ → List ℕ
+utc_or_null None = null
+utc_or_null (Some t) = utc t
+
+-- an end of a connection, between quotes
+abbrev pub end_value : Endpoint → List ℕ
+end_value e = joined (codes "\"" ∷ end_text e ∷ codes "\"" ∷ [])
 
 -- with hyphens, between quotes
 abbrev pub uuid : (id : List ℕ) → List ℕ
@@ -69,6 +85,8 @@ value_text (value.Flag b) = boolean_text b
 value_text (value.Number n) = number n
 value_text (value.Signed z) = signed_decimal z
 value_text (value.Seconds s) = seconds s
+value_text (value.Utc t) = utc t
+value_text (value.End e) = end_value e
 value_text (value.Name name) = word name.now
 value_text (value.Text text) = string text.now
 value_text (value.Hex bytes) = hex bytes.now

@@ -15,6 +15,7 @@ use Rattle.cqlp_observer.specs.declared.opening.Opening.{Opening}
 use Rattle.cqlp_observer.specs.declared.opening.Opening.TheVariants as opening
 use Rattle.cqlp_observer.specs.declared.paired.Paired.{Paired}
 use Rattle.cqlp_observer.specs.declared.paired.Paired.TheVariants.{Exchange, Unanswered, Unasked, Event}
+use Rattle.cqlp_capture_exchanges.specs.declared.connection.Connection.{Connection}
 use Rattle.cqlp_capture_exchanges.specs.Prepared.{named, Preparation}
 use Rattle.cqlp_capture_exchanges.specs.declared.reply.Reply.{Reply}
 use Rattle.cqlp_capture_exchanges.specs.declared.reply.Reply.TheVariants as reply_as
@@ -22,21 +23,22 @@ use Rattle.cqlp_capture_exchanges.specs.declared.report.ConnectionEnd.{Connectio
 use Rattle.cqlp_capture_exchanges.specs.declared.report.ConnectionEnd.TheVariants as ending
 use Rattle.cqlp_capture_exchanges.specs.Reports.{Report, Messages, Unread}
 use Rattle.cqlp_capture_exchanges.specs.declared.span.Span.{Span}
-use Rattle.cqlp_capture_exchanges.specs.Members.{consistency_or_null, name_or_code, null, number, number_or_null, seconds_or_null, signed_or_null, uuid_or_null}
+use Rattle.cqlp_capture_exchanges.specs.Members.{consistency_or_null, end_value, name_or_code, null, number, number_or_null, seconds_or_null, signed_or_null, utc_or_null, uuid_or_null}
 use Rattle.cqlp_capture_exchanges.specs.Replies.{error_names, kind_names, message, reply}
 use Rattle.cqlp_capture_exchanges.specs.Spans.{is_whole, time_between, took}
 use Rattle.cqlp_capture_exchanges.specs.Statements.{Said, Text, Id, statement, statements}
 use Rattle.cqlp_capture_exchanges.specs.Times.{joined}
 
--- ---- what is reported, when its first byte came, in seconds since the first packet, and where
+-- ---- what is reported; when its first byte came, in seconds since the first packet and as a date and a time of day; and where
 
 abbrev pub first_member : (name : String) → (value : List ℕ) → List ℕ
 first_member name value = codes "{\"" ++ codes name ++ codes "\":" ++ value
 
-abbrev pub place_members : (reported : List ℕ) → (first : Option ℕ) → (connection : ℕ) → Frame → Members
+abbrev pub place_members : (reported : List ℕ) → (first : Option ℕ) → (connection : Connection) → Frame → Members
 place_members reported first connection f =
-    first_member "told" (word reported) ∷ member "time" (seconds_or_null (time_between first f.begun))
-    ∷ member "connection" (number connection) ∷ member "stream" (signed_decimal f.header.stream) ∷ []
+    first_member "told" (word reported) ∷ member "time" (seconds_or_null (time_between first f.begun)) ∷ member "utc" (utc_or_null f.begun)
+    ∷ member "client" (end_value connection.ends.client) ∷ member "node" (end_value connection.ends.node)
+    ∷ member "connection" (number connection.number) ∷ member "stream" (signed_decimal f.header.stream) ∷ []
 
 -- ---- a request
 
@@ -121,21 +123,21 @@ end_or_null (Some ending.Open) = word (codes "open")
 abbrev pub last_members : (time : Option Span) → (end : Option ConnectionEnd) → Members
 last_members time end = member "took" (seconds_or_null time) ∷ member "connection_end" (end_or_null end) ∷ []
 
-abbrev pub exchange_object : (known : List Preparation) → (first : Option ℕ) → (connection : ℕ) → (request response : Message Kept) → List ℕ
+abbrev pub exchange_object : (known : List Preparation) → (first : Option ℕ) → (connection : Connection) → (request response : Message Kept) → List ℕ
 exchange_object known first n q r =
     joined (texts (place_members (codes "exchange") first n q.frame) ∷ request_members known q ∷ response_members r
     ∷ texts (last_members (took q.frame r.frame) None) ∷ codes "}\n" ∷ [])
 
-abbrev pub unanswered_object : (known : List Preparation) → (first : Option ℕ) → (connection : ℕ) → (end : Option ConnectionEnd)
+abbrev pub unanswered_object : (known : List Preparation) → (first : Option ℕ) → (connection : Connection) → (end : Option ConnectionEnd)
     → (request : Message Kept) → List ℕ
 unanswered_object known first n end q =
     joined (texts (place_members (codes "unanswered") first n q.frame) ∷ request_members known q ∷ texts (last_members None end) ∷ codes "}\n" ∷ [])
 
-abbrev pub alone_object : (reported : List ℕ) → (first : Option ℕ) → (connection : ℕ) → (response : Message Kept) → List ℕ
+abbrev pub alone_object : (reported : List ℕ) → (first : Option ℕ) → (connection : Connection) → (response : Message Kept) → List ℕ
 alone_object reported first n r =
     joined (texts (place_members reported first n r.frame) ∷ response_members r ∷ texts (last_members None None) ∷ codes "}\n" ∷ [])
 
-abbrev pub paired_object : (known : List Preparation) → (first : Option ℕ) → (connection : ℕ) → (end : Option ConnectionEnd) → Paired Kept → List ℕ
+abbrev pub paired_object : (known : List Preparation) → (first : Option ℕ) → (connection : Connection) → (end : Option ConnectionEnd) → Paired Kept → List ℕ
 paired_object known first n end (Exchange q r) = exchange_object known first n q r
 paired_object known first n end (Unanswered q) = unanswered_object known first n end q
 paired_object known first n end (Unasked r) = alone_object (codes "unasked") first n r
@@ -152,14 +154,15 @@ abbrev pub version_or_null : Opening → List ℕ
 version_or_null (opening.OtherVersion version) = number version
 version_or_null o = null
 
-abbrev pub unread_members : (first : Option ℕ) → (connection : ℕ) → (time : Option ℕ) → Opening → Members
+abbrev pub unread_members : (first : Option ℕ) → (connection : Connection) → (time : Option ℕ) → Opening → Members
 unread_members first connection time o =
-    first_member "told" (word (codes "unread")) ∷ member "time" (seconds_or_null (time_between first time))
-    ∷ member "connection" (number connection) ∷ member "protocol" (word (protocol_name o)) ∷ member "version" (version_or_null o) ∷ []
+    first_member "told" (word (codes "unread")) ∷ member "time" (seconds_or_null (time_between first time)) ∷ member "utc" (utc_or_null time)
+    ∷ member "client" (end_value connection.ends.client) ∷ member "node" (end_value connection.ends.node)
+    ∷ member "connection" (number connection.number) ∷ member "protocol" (word (protocol_name o)) ∷ member "version" (version_or_null o) ∷ []
 
-abbrev pub unread_object : (first : Option ℕ) → (connection : ℕ) → (time : Option ℕ) → Opening → List ℕ
+abbrev pub unread_object : (first : Option ℕ) → (connection : Connection) → (time : Option ℕ) → Opening → List ℕ
 unread_object first n time o = joined (texts (unread_members first n time o) ∷ codes "}\n" ∷ [])
 
-abbrev pub json_line : (known : List Preparation) → (first : Option ℕ) → (connection : ℕ) → Report → List ℕ
+abbrev pub json_line : (known : List Preparation) → (first : Option ℕ) → (connection : Connection) → Report → List ℕ
 json_line known first n (Messages t end) = paired_object known first n end t
 json_line known first n (Unread time o) = unread_object first n time o

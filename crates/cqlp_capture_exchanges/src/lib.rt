@@ -3,6 +3,8 @@
 
 mod batch_name;
 mod capturing;
+mod connection;
+mod end;
 mod exchanges;
 mod filter;
 mod form;

@@ -4,15 +4,23 @@ ghost use Rattle.std.specs.Prelude.{◌≡◌, option_map};
 ghost use Rattle.std.specs.List.{flat_map};
 ghost use Rattle.cqlp_text.specs.CellText.{boolean_text};
 ghost use Rattle.cqlp_text.specs.Written.{Writes};
-ghost use Rattle.cqlp_capture_exchanges.specs.Members.{consistency_or_null, member_text, name_or_code, number as number_text};
+ghost use Rattle.cqlp_capture_exchanges.specs.Members.{consistency_or_null, end_value, member_text, name_or_code, number as number_text};
 ghost use Rattle.cqlp_capture_exchanges.specs.Members.{number_or_null, quote, seconds, seconds_or_null};
-ghost use Rattle.cqlp_capture_exchanges.specs.Members.{signed_or_null, uuid as uuid_text, uuid_or_null, value_text};
+ghost use Rattle.cqlp_capture_exchanges.specs.Members.{signed_or_null, utc as utc_text, utc_or_null, uuid as uuid_text, uuid_or_null, value_text};
 
+use crate::end::put_end;
 use crate::reply::consistency_name;
 use crate::span::{Span, sign};
 use cqlp_grammar::SinkFault;
 use cqlp_json::{put_bytes, put_string, put_word};
+use cqlp_tcp_segment::Endpoint;
 use cqlp_text::{Pen, TextWriter};
+
+/// How many nanoseconds a day has.
+const DAY: u64 = 86_400_000_000_000;
+
+/// The number that `TextWriter::put_date` takes for the first of January 1970.
+const EPOCH: u64 = 1 << 31;
 
 /// The value of a member.
 #[derive(Clone, Copy)]
@@ -24,6 +32,10 @@ pub(crate) enum Value<'a> {
     Signed(i32),
     /// With nine digits after the point; between quotes where it is more than 2^53 nanoseconds.
     Seconds(Span),
+    /// Nanoseconds since 1970-01-01 00:00:00 UTC as a date and a time of day.
+    Utc(u64),
+    /// As a socket's address is written.
+    End(Endpoint),
     /// A text that needs no escape.
     Name(&'a str),
     Text(&'a str),
@@ -42,6 +54,16 @@ pub(crate) fn seconds_or_null(time: Option<Span>) -> Value<'static>
 {
     match time {
         Some(span) => Value::Seconds(span),
+        None => Value::Null,
+    }
+}
+
+/// A date and a time of day, where they are known.
+pub(crate) fn utc_or_null(time: Option<u64>) -> Value<'static>
+    ensures { value_text result ≡ utc_or_null time }
+{
+    match time {
+        Some(time) => Value::Utc(time),
         None => Value::Null,
     }
 }
@@ -120,6 +142,8 @@ fn put_value<P: Pen>(writer: &mut TextWriter<P>, value: Value<'_>) -> Result<(),
         Value::Number(number) => put_big(writer, number),
         Value::Signed(number) => writer.put_signed(i64::from(number)),
         Value::Seconds(span) => put_seconds(writer, span),
+        Value::Utc(time) => put_utc(writer, time),
+        Value::End(end) => put_end_value(writer, end),
         Value::Name(name) => put_word(name, writer),
         Value::Text(text) => put_string(text, writer),
         Value::Hex(bytes) => put_bytes(bytes, writer),
@@ -170,4 +194,23 @@ fn put_seconds<P: Pen>(writer: &mut TextWriter<P>, span: Span) -> Result<(), Sin
     writer.put(b".")?;
     writer.put_digits(9, nanoseconds % 1_000_000_000)?;
     writer.put_str(quote(nanoseconds))
+}
+
+fn put_utc<P: Pen>(writer: &mut TextWriter<P>, time: u64) -> Result<(), SinkFault>
+    ensures { Writes writer.old (utc_text time) result writer.new }
+{
+    let day = EPOCH + time / DAY;
+    writer.put(b"\"")?;
+    writer.put_date(day as u32)?;
+    writer.put(b"T")?;
+    writer.put_time((time % DAY) as i64)?;
+    writer.put(b"Z\"")
+}
+
+fn put_end_value<P: Pen>(writer: &mut TextWriter<P>, end: Endpoint) -> Result<(), SinkFault>
+    ensures { Writes writer.old (end_value end) result writer.new }
+{
+    writer.put(b"\"")?;
+    put_end(writer, end)?;
+    writer.put(b"\"")
 }

@@ -13,9 +13,10 @@ ghost use Rattle.cqlp_capture_exchanges.specs.Objects.{statement_as, statement_m
 ghost use Rattle.cqlp_capture_exchanges.specs.Members.{value_text};
 ghost use Rattle.cqlp_capture_exchanges.specs.Statements.{said_of};
 
+use crate::connection::Connection;
 use crate::member::{
     Member, Value, consistency_or_null, name_or_code, number_or_null, put_members, seconds_or_null,
-    signed_or_null, uuid_or_null,
+    signed_or_null, utc_or_null, uuid_or_null,
 };
 use crate::prepared::{Preparation, named};
 use crate::reply::{Reply, error_name, kind_name, message_of, reply_of};
@@ -28,19 +29,19 @@ use cqlp_observer::{Facts, Frame, Kept, Message, Opening, Paired};
 use cqlp_text::{Buffered, Pen, TextWriter, opcode_name};
 use std::alloc::Allocator;
 
-/// Takes the object of a report of the connection with this number, in a capture whose first packet came at this time, in a line of its own, and
+/// Takes the object of a report of this connection, in a capture whose first packet came at this time, in a line of its own, and
 /// passes it on.
 pub(crate) fn put_json_line<W: Target, A: Allocator, B: Allocator>(
     writer: &mut TextWriter<Buffered<W, A>>,
     known: &[Preparation<B>],
     first: Option<u64>,
-    number: u64,
+    connection: &Connection,
     report: &Report<B>,
 ) -> Result<(), SinkFault>
-    ensures line { Writes writer.old (json_line known.now first number (report_of report.now)) result writer.new }
+    ensures line { Writes writer.old (json_line known.now first connection.now (report_of report.now)) result writer.new }
     ensures passed { writer.new.waiting ≡ [] }
 {
-    put_report(writer, known, first, number, report)?;
+    put_report(writer, known, first, connection, report)?;
     writer.pass_on()
 }
 
@@ -49,14 +50,16 @@ fn put_report<P: Pen, A: Allocator>(
     writer: &mut TextWriter<P>,
     known: &[Preparation<A>],
     first: Option<u64>,
-    number: u64,
+    connection: &Connection,
     report: &Report<A>,
 ) -> Result<(), SinkFault>
-    ensures { Writes writer.old (json_line known.now first number (report_of report.now)) result writer.new }
+    ensures { Writes writer.old (json_line known.now first connection.now (report_of report.now)) result writer.new }
 {
     match report {
-        Report::Messages { paired, end } => put_paired(writer, known, first, number, *end, paired),
-        Report::Unread { time, opening } => put_unread(writer, first, number, *time, *opening),
+        Report::Messages { paired, end } => put_paired(
+            writer, known, first, connection, *end, paired,
+        ),
+        Report::Unread { time, opening } => put_unread(writer, first, connection, *time, *opening),
     }
 }
 
@@ -64,24 +67,24 @@ fn put_report<P: Pen, A: Allocator>(
 fn put_unread<P: Pen>(
     writer: &mut TextWriter<P>,
     first: Option<u64>,
-    number: u64,
+    connection: &Connection,
     time: Option<u64>,
     opening: Opening,
 ) -> Result<(), SinkFault>
-    ensures { Writes writer.old (unread_object first number time opening) result writer.new }
+    ensures { Writes writer.old (unread_object first connection.now time opening) result writer.new }
 {
-    put_opening(writer, first, number, time, opening)?;
+    put_opening(writer, first, connection, time, opening)?;
     writer.put(b"}\n")
 }
 
 fn put_opening<P: Pen>(
     writer: &mut TextWriter<P>,
     first: Option<u64>,
-    number: u64,
+    connection: &Connection,
     time: Option<u64>,
     opening: Opening,
 ) -> Result<(), SinkFault>
-    ensures { Writes writer.old (texts (unread_members first number time opening)) result writer.new }
+    ensures { Writes writer.old (texts (unread_members first connection.now time opening)) result writer.new }
 {
     let since = time_between(first, time);
     put_members(
@@ -89,7 +92,10 @@ fn put_opening<P: Pen>(
         &[
             Member("{\"told\":", Value::Name("unread")),
             Member(",\"time\":", seconds_or_null(since)),
-            Member(",\"connection\":", Value::Number(number)),
+            Member(",\"utc\":", utc_or_null(time)),
+            Member(",\"client\":", Value::End(connection.ends.client)),
+            Member(",\"node\":", Value::End(connection.ends.node)),
+            Member(",\"connection\":", Value::Number(connection.number)),
             Member(",\"protocol\":", Value::Name(protocol_name(opening))),
             Member(",\"version\":", version_or_null(opening)),
         ],
@@ -123,28 +129,22 @@ fn put_paired<P: Pen, A: Allocator>(
     writer: &mut TextWriter<P>,
     known: &[Preparation<A>],
     first: Option<u64>,
-    number: u64,
+    connection: &Connection,
     end: Option<ConnectionEnd>,
     reported: &Paired<Kept<A>>,
 ) -> Result<(), SinkFault>
-    ensures { Writes writer.old (paired_object known.now first number end reported.now) result writer.new }
+    ensures { Writes writer.old (paired_object known.now first connection.now end reported.now) result writer.new }
 {
-    let place = Place { first, number };
     match reported {
         Paired::Exchange { request, response } => {
-            put_exchange(writer, known, place, request, response)
+            put_exchange(writer, known, first, connection, request, response)
         }
-        Paired::Unanswered { request } => put_unanswered(writer, known, place, end, request),
-        Paired::Unasked { response } => put_alone(writer, "unasked", place, response),
-        Paired::Event { event } => put_alone(writer, "event", place, event),
+        Paired::Unanswered { request } => put_unanswered(
+            writer, known, first, connection, end, request,
+        ),
+        Paired::Unasked { response } => put_alone(writer, "unasked", first, connection, response),
+        Paired::Event { event } => put_alone(writer, "event", first, connection, event),
     }
-}
-
-/// When the first packet came, and a connection's number.
-#[derive(Clone, Copy)]
-struct Place {
-    first: Option<u64>,
-    number: u64,
 }
 
 /// How long an exchange took, and how the connection of a request without a response ended.
@@ -166,23 +166,18 @@ impl Last {
 fn put_exchange<P: Pen, A: Allocator>(
     writer: &mut TextWriter<P>,
     known: &[Preparation<A>],
-    place: Place,
+    first: Option<u64>,
+    connection: &Connection,
     request: &Message<Kept<A>>,
     response: &Message<Kept<A>>,
 ) -> Result<(), SinkFault>
-    ensures { Writes writer.old (paired_object known.now place.first place.number None (Exchange request.now response.now)) result writer.new }
+    ensures { Writes writer.old (paired_object known.now first connection.now None (Exchange request.now response.now)) result writer.new }
 {
     let last = Last {
         time: took(&request.frame, &response.frame),
         end: None,
     };
-    put_place(
-        writer,
-        "exchange",
-        place.first,
-        place.number,
-        &request.frame,
-    )?;
+    put_place(writer, "exchange", first, connection, &request.frame)?;
     put_request(writer, known, request)?;
     put_response(writer, response)?;
     put_last(writer, last)?;
@@ -193,20 +188,15 @@ fn put_exchange<P: Pen, A: Allocator>(
 fn put_unanswered<P: Pen, A: Allocator>(
     writer: &mut TextWriter<P>,
     known: &[Preparation<A>],
-    place: Place,
+    first: Option<u64>,
+    connection: &Connection,
     end: Option<ConnectionEnd>,
     request: &Message<Kept<A>>,
 ) -> Result<(), SinkFault>
-    ensures { Writes writer.old (paired_object known.now place.first place.number end (Unanswered request.now)) result writer.new }
+    ensures { Writes writer.old (paired_object known.now first connection.now end (Unanswered request.now)) result writer.new }
 {
     let last = Last { time: None, end };
-    put_place(
-        writer,
-        "unanswered",
-        place.first,
-        place.number,
-        &request.frame,
-    )?;
+    put_place(writer, "unanswered", first, connection, &request.frame)?;
     put_request(writer, known, request)?;
     put_last(writer, last)?;
     writer.put(b"}\n")
@@ -216,12 +206,13 @@ fn put_unanswered<P: Pen, A: Allocator>(
 fn put_alone<P: Pen, A: Allocator>(
     writer: &mut TextWriter<P>,
     reported: &str,
-    place: Place,
+    first: Option<u64>,
+    connection: &Connection,
     response: &Message<Kept<A>>,
 ) -> Result<(), SinkFault>
-    ensures { Writes writer.old (alone_object reported.now place.first place.number response.now) result writer.new }
+    ensures { Writes writer.old (alone_object reported.now first connection.now response.now) result writer.new }
 {
-    put_place(writer, reported, place.first, place.number, &response.frame)?;
+    put_place(writer, reported, first, connection, &response.frame)?;
     put_response(writer, response)?;
     put_last(writer, Last::NONE)?;
     writer.put(b"}\n")
@@ -232,10 +223,10 @@ fn put_place<P: Pen>(
     writer: &mut TextWriter<P>,
     reported: &str,
     first: Option<u64>,
-    number: u64,
+    connection: &Connection,
     frame: &Frame,
 ) -> Result<(), SinkFault>
-    ensures { Writes writer.old (texts (place_members reported.now first number frame.now)) result writer.new }
+    ensures { Writes writer.old (texts (place_members reported.now first connection.now frame.now)) result writer.new }
 {
     let since = time_between(first, frame.begun);
     put_members(
@@ -243,7 +234,10 @@ fn put_place<P: Pen>(
         &[
             Member("{\"told\":", Value::Name(reported)),
             Member(",\"time\":", seconds_or_null(since)),
-            Member(",\"connection\":", Value::Number(number)),
+            Member(",\"utc\":", utc_or_null(frame.begun)),
+            Member(",\"client\":", Value::End(connection.ends.client)),
+            Member(",\"node\":", Value::End(connection.ends.node)),
+            Member(",\"connection\":", Value::Number(connection.number)),
             Member(
                 ",\"stream\":",
                 Value::Signed(i32::from(frame.header.stream)),

@@ -7,6 +7,7 @@ ghost use Rattle.cqlp_capture_exchanges.specs.Forms.{ending_of, text_of};
 ghost use Rattle.cqlp_text.specs.Outputs.{written};
 ghost use Rattle.cqlp_capture_exchanges.specs.Reports.{report_of};
 
+use crate::connection::Connection;
 use crate::filter::ExchangeFilter;
 use crate::form::ExchangeForm;
 use crate::lines::put_line;
@@ -105,20 +106,20 @@ impl<O: Target, A: Allocator> Reporter<O, A> {
         self.first = self.first.or(time);
     }
 
-    /// Takes a report of the connection with this number.
+    /// Takes a report of this connection.
     #[tactic(auto, using(crate::proofs::Accounts::reported_shown))]
-    fn take_report(&mut self, number: u64, report: &Report<A>) -> Result<(), SinkFault>
-        ensures { IsSome self.old.output.given → ReportsOne number (report_of report.now) self.old result self.new }
+    fn take_report(&mut self, connection: &Connection, report: &Report<A>) -> Result<(), SinkFault>
+        ensures { IsSome self.old.output.given → ReportsOne connection.now (report_of report.now) self.old result self.new }
     {
         self.sums.count(report);
-        if self.filter.shows(number, report) {
+        if self.filter.shows(connection.number, report) {
             note(&mut self.summary, self.form, &self.known, report);
             put_report(
                 &mut self.writer,
                 self.form,
                 &self.known,
                 self.first,
-                number,
+                connection,
                 report,
             )
         } else {
@@ -133,11 +134,11 @@ impl<O: Target, A: Allocator> Reporter<O, A> {
         put_ending(&mut self.writer, self.form, &self.summary)
     }
 
-    /// Takes a report of the connection with this number, and learns from it.
-    fn report(&mut self, number: u64, report: Report<A>) -> Result<(), StreamsFault>
-        ensures { ReportedAll number (report_of report ∷ []) self.old result self.new }
+    /// Takes a report of this connection, and learns from it.
+    fn report(&mut self, connection: &Connection, report: Report<A>) -> Result<(), StreamsFault>
+        ensures { ReportedAll connection.now (report_of report ∷ []) self.old result self.new }
     {
-        match self.take_report(number, &report) {
+        match self.take_report(connection, &report) {
             Ok(()) => {
                 self.learn(report);
                 Ok(())
@@ -149,14 +150,14 @@ impl<O: Target, A: Allocator> Reporter<O, A> {
     /// Reports messages, if there are some; where they are reported since their connection is finished, also how that ended.
     pub(crate) fn report_messages(
         &mut self,
-        number: u64,
+        connection: &Connection,
         end: Option<ConnectionEnd>,
         exchange: Option<Paired<Kept<A>>>,
     ) -> Result<(), StreamsFault>
-        ensures { ReportedAll number (messages end exchange) self.old result self.new }
+        ensures { ReportedAll connection.now (messages end exchange) self.old result self.new }
     {
         match exchange {
-            Some(paired) => self.report(number, Report::Messages { paired, end }),
+            Some(paired) => self.report(connection, Report::Messages { paired, end }),
             None => Ok(()),
         }
     }
@@ -164,17 +165,17 @@ impl<O: Target, A: Allocator> Reporter<O, A> {
     /// Reports that a connection is not read, if a direction begins so at this time, unless that was reported.
     pub(crate) fn report_opening(
         &mut self,
-        number: u64,
+        connection: &Connection,
         time: Option<u64>,
         was_reported: bool,
         opening: Opening,
     ) -> Result<(), StreamsFault>
-        ensures { ReportedAll number (unread time was_reported opening) self.old result self.new }
+        ensures { ReportedAll connection.now (unread time was_reported opening) self.old result self.new }
     {
         if was_reported {
             Ok(())
         } else if is_unread(opening) {
-            self.report(number, Report::Unread { time, opening })
+            self.report(connection, Report::Unread { time, opening })
         } else {
             Ok(())
         }
@@ -214,23 +215,23 @@ impl<O: Target, A: Allocator> Reporter<O, A> {
     }
 }
 
-/// Takes what is written of a report of the connection with this number, and passes it on.
+/// Takes what is written of a report of this connection, and passes it on.
 #[tactic(auto, using(crate::proofs::Texts::nothing_taken))]
 fn put_report<W: Target, A: Allocator, B: Allocator>(
     writer: &mut TextWriter<Buffered<W, A>>,
     form: ExchangeForm,
     known: &[Preparation<B>],
     first: Option<u64>,
-    number: u64,
+    connection: &Connection,
     report: &Report<B>,
 ) -> Result<(), SinkFault>
     requires { writer.old.waiting ≡ [] }
-    ensures text { Writes writer.old (text_of form known.now first number (report_of report.now)) result writer.new }
+    ensures text { Writes writer.old (text_of form known.now first connection.now (report_of report.now)) result writer.new }
     ensures passed { writer.new.waiting ≡ [] }
 {
     match form {
-        ExchangeForm::Lines => put_line(writer, known, first, number, report),
-        ExchangeForm::Json => put_json_line(writer, known, first, number, report),
+        ExchangeForm::Lines => put_line(writer, known, first, connection.number, report),
+        ExchangeForm::Json => put_json_line(writer, known, first, connection, report),
         ExchangeForm::Summary(_) => Ok(()),
     }
 }

@@ -2,10 +2,12 @@
 
 ghost use Rattle.std.specs.Prelude.{◌≡◌, ◌||◌, ◌++◌, IfOk, IsSome, None, OnOk, false};
 ghost use Rattle.cqlp_capture_exchanges.specs.Accounts.{ReportedAll};
+ghost use Rattle.cqlp_capture_exchanges.specs.Connections.{of_delivery};
 ghost use Rattle.cqlp_capture_exchanges.specs.Reports.{is_unread, messages, unread};
 ghost use Rattle.cqlp_capture_exchanges.specs.Talks.{bytes_heard, ended, is_responses, remaining, slot, delivery_heard};
 ghost use Rattle.cqlp_observer.specs.Watches.{after_end, after_gap};
 
+use crate::connection::Connection;
 use crate::report::{ConnectionEnd, is_unread};
 use crate::reporter::Reporter;
 use cqlp_capture_streams::StreamsFault;
@@ -76,7 +78,7 @@ impl<A: Allocator + Clone> Slot<A> {
         bytes: &[u8],
         reporter: &mut Reporter<O, A>,
     ) -> Result<(), StreamsFault>
-        ensures reports { ReportedAll delivered.now.number (delivery_heard present delivered.now room bytes.now self.old).reports reporter.old
+        ensures reports { ReportedAll (of_delivery delivered.now) (delivery_heard present delivered.now room bytes.now self.old).reports reporter.old
             result reporter.new }
         ensures after { IsSome reporter.old.output.given → OnOk result (self.new ≡ (delivery_heard present delivered.now room bytes.now self.old).after) }
     {
@@ -94,26 +96,26 @@ impl<A: Allocator + Clone> Slot<A> {
     /// The streams of the connection end: reports what that delivers.
     pub(crate) fn end<O: Target>(
         &mut self,
-        number: u64,
+        connection: &Connection,
         room: WatchRoom,
         reporter: &mut Reporter<O, A>,
     ) -> Result<(), StreamsFault>
-        ensures reports { ReportedAll number (ended room self.old).reports reporter.old result reporter.new }
+        ensures reports { ReportedAll connection.now (ended room self.old).reports reporter.old result reporter.new }
         ensures after { IsSome reporter.old.output.given → OnOk result (self.new ≡ (ended room self.old).after) }
     {
-        end_watch(&mut self.watch, number, room, reporter)
+        end_watch(&mut self.watch, connection, room, reporter)
     }
 
     /// Reports the messages that wait, of a connection that ended so.
     pub(crate) fn let_go<O: Target>(
         &mut self,
-        number: u64,
+        connection: &Connection,
         end: ConnectionEnd,
         reporter: &mut Reporter<O, A>,
     ) -> Result<(), StreamsFault>
-        ensures { ReportedAll number (remaining end self.old.watch.waiting) reporter.old result reporter.new }
+        ensures { ReportedAll connection.now (remaining end self.old.watch.waiting) reporter.old result reporter.new }
     {
-        let_go(&mut self.watch, number, end, reporter)
+        let_go(&mut self.watch, connection, end, reporter)
     }
 }
 
@@ -128,12 +130,15 @@ fn hear_delivery<O: Target, A: Allocator + Clone>(
     reporter: &mut Reporter<O, A>,
 ) -> Result<(), StreamsFault>
     ensures reports { let t = delivery_heard present delivered.now room bytes.now (slot watch.old is_reported.old) in
-        ReportedAll delivered.now.number t.reports reporter.old result reporter.new }
+        ReportedAll (of_delivery delivered.now) t.reports reporter.old result reporter.new }
     ensures after { let t = delivery_heard present delivered.now room bytes.now (slot watch.old is_reported.old) in
         IsSome reporter.old.output.given → OnOk result (slot watch.new is_reported.new ≡ t.after) }
 {
     let responses = is_responses(delivered.way);
-    let number = delivered.number;
+    let connection = &Connection {
+        number: delivered.number,
+        ends: delivered.ends,
+    };
     match delivered.step {
         StreamStep::Began { syn } => {
             watch.begin(responses, syn);
@@ -146,7 +151,7 @@ fn hear_delivery<O: Target, A: Allocator + Clone>(
                 begins: from == 0,
                 bytes,
             };
-            hear_bytes(watch, is_reported, number, piece, room, reporter)
+            hear_bytes(watch, is_reported, connection, piece, room, reporter)
         }
         StreamStep::Held { time, begins } => {
             let piece = Piece {
@@ -155,13 +160,13 @@ fn hear_delivery<O: Target, A: Allocator + Clone>(
                 begins,
                 bytes,
             };
-            hear_bytes(watch, is_reported, number, piece, room, reporter)
+            hear_bytes(watch, is_reported, connection, piece, room, reporter)
         }
         StreamStep::Gap { length, time, .. } => {
-            hear_gap(watch, number, responses, length, time, room, reporter)
+            hear_gap(watch, connection, responses, length, time, room, reporter)
         }
         StreamStep::Ended | StreamStep::Reset => {
-            end_direction(watch, number, responses, room, reporter)
+            end_direction(watch, connection, responses, room, reporter)
         }
         StreamStep::Kept | StreamStep::Done => Ok(()),
     }
@@ -190,14 +195,14 @@ struct Piece<'a> {
 fn hear_bytes<O: Target, A: Allocator + Clone>(
     watch: &mut Watch<A>,
     is_reported: &mut bool,
-    number: u64,
+    connection: &Connection,
     piece: Piece<'_>,
     room: WatchRoom,
     reporter: &mut Reporter<O, A>,
 ) -> Result<(), StreamsFault>
     ensures reports { let p = piece.entry in
         let t = bytes_heard p.responses p.time p.begins room p.bytes.now (slot watch.old is_reported.old) in
-        ReportedAll number t.reports reporter.old result reporter.new }
+        ReportedAll connection.now t.reports reporter.old result reporter.new }
     ensures after { let p = piece.entry in
         let t = bytes_heard p.responses p.time p.begins room p.bytes.now (slot watch.old is_reported.old) in
         IsSome reporter.old.output.given → OnOk result (slot watch.new is_reported.new ≡ t.after) }
@@ -219,7 +224,7 @@ fn hear_bytes<O: Target, A: Allocator + Clone>(
             opening,
             reported,
         } = step;
-        report_step(reporter, number, time, *is_reported, opening, reported)?;
+        report_step(reporter, connection, time, *is_reported, opening, reported)?;
         *is_reported = is_reported_after(*is_reported, opening);
         if is_done {
             return Ok(());
@@ -232,16 +237,16 @@ fn hear_bytes<O: Target, A: Allocator + Clone>(
 /// Reports what a step of bytes holds that were captured at this time.
 fn report_step<O: Target, A: Allocator>(
     reporter: &mut Reporter<O, A>,
-    number: u64,
+    connection: &Connection,
     time: Option<u64>,
     was_reported: bool,
     opening: Opening,
     exchange: Option<Paired<Kept<A>>>,
 ) -> Result<(), StreamsFault>
-    ensures { ReportedAll number (unread time was_reported opening ++ messages None exchange) reporter.old result reporter.new }
+    ensures { ReportedAll connection.now (unread time was_reported opening ++ messages None exchange) reporter.old result reporter.new }
 {
-    match reporter.report_opening(number, time, was_reported, opening) {
-        Ok(()) => reporter.report_messages(number, None, exchange),
+    match reporter.report_opening(connection, time, was_reported, opening) {
+        Ok(()) => reporter.report_messages(connection, None, exchange),
         Err(fault) => Err(fault),
     }
 }
@@ -256,18 +261,18 @@ fn is_reported_after(was_reported: bool, opening: Opening) -> bool
 /// So many bytes of a direction are missing, which passed at this time, where that is known.
 fn hear_gap<O: Target, A: Allocator + Clone>(
     watch: &mut Watch<A>,
-    number: u64,
+    connection: &Connection,
     responses: bool,
     length: u64,
     time: Option<u64>,
     room: WatchRoom,
     reporter: &mut Reporter<O, A>,
 ) -> Result<(), StreamsFault>
-    ensures reports { ReportedAll number (messages None (after_gap responses length time room watch.old).reported) reporter.old result reporter.new }
+    ensures reports { ReportedAll connection.now (messages None (after_gap responses length time room watch.old).reported) reporter.old result reporter.new }
     ensures after { IsSome reporter.old.output.given → OnOk result (watch.new ≡ (after_gap responses length time room watch.old).after) }
 {
     match watch.gap(responses, length, time, room) {
-        Ok(exchange) => reporter.report_messages(number, None, exchange),
+        Ok(exchange) => reporter.report_messages(connection, None, exchange),
         Err(AllocError) => Err(StreamsFault::NoMemory),
     }
 }
@@ -275,15 +280,15 @@ fn hear_gap<O: Target, A: Allocator + Clone>(
 /// No more bytes of either direction come.
 fn end_watch<O: Target, A: Allocator + Clone>(
     watch: &mut Watch<A>,
-    number: u64,
+    connection: &Connection,
     room: WatchRoom,
     reporter: &mut Reporter<O, A>,
 ) -> Result<(), StreamsFault>
-    ensures reports { ReportedAll number (ended room (slot watch.old false)).reports reporter.old result reporter.new }
+    ensures reports { ReportedAll connection.now (ended room (slot watch.old false)).reports reporter.old result reporter.new }
     ensures after { IsSome reporter.old.output.given → OnOk result (watch.new ≡ (ended room (slot watch.old false)).after.watch) }
 {
-    match end_direction(watch, number, false, room, reporter) {
-        Ok(()) => end_direction(watch, number, true, room, reporter),
+    match end_direction(watch, connection, false, room, reporter) {
+        Ok(()) => end_direction(watch, connection, true, room, reporter),
         Err(fault) => Err(fault),
     }
 }
@@ -291,16 +296,16 @@ fn end_watch<O: Target, A: Allocator + Clone>(
 /// No more bytes of a direction come.
 fn end_direction<O: Target, A: Allocator + Clone>(
     watch: &mut Watch<A>,
-    number: u64,
+    connection: &Connection,
     responses: bool,
     room: WatchRoom,
     reporter: &mut Reporter<O, A>,
 ) -> Result<(), StreamsFault>
-    ensures reports { ReportedAll number (messages None (after_end responses room watch.old).reported) reporter.old result reporter.new }
+    ensures reports { ReportedAll connection.now (messages None (after_end responses room watch.old).reported) reporter.old result reporter.new }
     ensures after { IsSome reporter.old.output.given → OnOk result (watch.new ≡ (after_end responses room watch.old).after) }
 {
     match watch.end(responses, room) {
-        Ok(exchange) => reporter.report_messages(number, None, exchange),
+        Ok(exchange) => reporter.report_messages(connection, None, exchange),
         Err(AllocError) => Err(StreamsFault::NoMemory),
     }
 }
@@ -308,14 +313,14 @@ fn end_direction<O: Target, A: Allocator + Clone>(
 /// Reports the messages that wait, of a connection that ended so.
 fn let_go<O: Target, A: Allocator + Clone>(
     watch: &mut Watch<A>,
-    number: u64,
+    connection: &Connection,
     end: ConnectionEnd,
     reporter: &mut Reporter<O, A>,
 ) -> Result<(), StreamsFault>
-    ensures { ReportedAll number (remaining end watch.old.waiting) reporter.old result reporter.new }
+    ensures { ReportedAll connection.now (remaining end watch.old.waiting) reporter.old result reporter.new }
 {
     while let Some(exchange) = watch.finish() {
-        reporter.report_messages(number, Some(end), Some(exchange))?;
+        reporter.report_messages(connection, Some(end), Some(exchange))?;
     }
     Ok(())
 }

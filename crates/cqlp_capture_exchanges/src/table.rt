@@ -2,7 +2,9 @@
 
 ghost use Rattle.std.specs.Prelude.{◌≡◌, IfOk, IsSome, OnOk};
 ghost use Rattle.cqlp_capture_exchanges.specs.Accounts.{ReportedAll};
+ghost use Rattle.cqlp_capture_exchanges.specs.Connections.{of_delivery, of_totals};
 
+use crate::connection::Connection;
 use crate::pool::{ExchangeLimits, Pool};
 use crate::report::end_of;
 use crate::reporter::Reporter;
@@ -10,7 +12,7 @@ use crate::slot::Slot;
 use cqlp_capture_streams::StreamsFault;
 use cqlp_note::Target;
 use cqlp_observer::{Missed, WatchRoom};
-use cqlp_tcp_connections::{ConnectionTotals, Delivery};
+use cqlp_tcp_connections::{ConnectionTotals, Delivery, Ends};
 use std::alloc::{AllocError, Allocator, Global};
 use std::collections::BTreeMap;
 use std::marker::Model;
@@ -78,7 +80,7 @@ impl<A: Allocator + Clone> Table<A> {
         bytes: &[u8],
         reporter: &mut Reporter<O, A>,
     ) -> Result<(), StreamsFault>
-        ensures reports { ReportedAll delivered.now.number (takes_delivery present delivered.now bytes.now self.old).reports reporter.old result reporter.new }
+        ensures reports { ReportedAll (of_delivery delivered.now) (takes_delivery present delivered.now bytes.now self.old).reports reporter.old result reporter.new }
         ensures after { IsSome reporter.old.output.given → OnOk result (self.new ≡ (takes_delivery present delivered.now bytes.now self.old).table) }
     {
         match self.slots.get_mut(&delivered.number) {
@@ -93,7 +95,7 @@ impl<A: Allocator + Clone> Table<A> {
         totals: &ConnectionTotals,
         reporter: &mut Reporter<O, A>,
     ) -> Result<(), StreamsFault>
-        ensures reports { ReportedAll totals.now.number (leaves totals.now self.old).reports reporter.old result reporter.new }
+        ensures reports { ReportedAll (of_totals totals.now) (leaves totals.now self.old).reports reporter.old result reporter.new }
         ensures after { IsSome reporter.old.output.given → OnOk result (self.new ≡ (leaves totals.now self.old).table) }
     {
         match self.slots.remove(&totals.number) {
@@ -118,7 +120,7 @@ fn hear_in<O: Target, A: Allocator + Clone>(
     reporter: &mut Reporter<O, A>,
 ) -> Result<(), StreamsFault>
     ensures reports { let t = delivery_heard present delivered.now (room_for (held_in slot.old) pool.old) bytes.now slot.old in
-        ReportedAll delivered.now.number t.reports reporter.old result reporter.new }
+        ReportedAll (of_delivery delivered.now) t.reports reporter.old result reporter.new }
     ensures slot { let t = delivery_heard present delivered.now (room_for (held_in slot.old) pool.old) bytes.now slot.old in
         IsSome reporter.old.output.given → OnOk result (slot.new ≡ t.after) }
     ensures pool { let t = delivery_heard present delivered.now (room_for (held_in slot.old) pool.old) bytes.now slot.old in
@@ -140,7 +142,7 @@ fn let_leave<O: Target, A: Allocator + Clone>(
     reporter: &mut Reporter<O, A>,
 ) -> Result<(), StreamsFault>
     ensures reports { let t = left (end_of totals.now) (room_for (held_in slot) pool.old) slot in
-        ReportedAll totals.now.number t.reports reporter.old result reporter.new }
+        ReportedAll (of_totals totals.now) t.reports reporter.old result reporter.new }
     ensures pool { pool.new ≡ exchanged (held_in slot) (amount 0 0) pool.old }
     ensures missed { let t = left (end_of totals.now) (room_for (held_in slot) pool.old) slot in
         IsSome reporter.old.output.given → OnOk result (missed.new ≡ added missed.old t.after.watch.missed) }
@@ -148,10 +150,17 @@ fn let_leave<O: Target, A: Allocator + Clone>(
     let old = slot.held();
     let room = pool.room_for(old);
     pool.exchange(old, NONE);
-    match slot.end(totals.number, room, reporter) {
+    let connection = Connection {
+        number: totals.number,
+        ends: Ends {
+            client: totals.client,
+            node: totals.node,
+        },
+    };
+    match slot.end(&connection, room, reporter) {
         Ok(()) => {
             missed.add(&slot.missed());
-            slot.let_go(totals.number, end_of(totals), reporter)
+            slot.let_go(&connection, end_of(totals), reporter)
         }
         Err(fault) => Err(fault),
     }

@@ -1,11 +1,19 @@
 // Written by dist/erase from crates/cqlp_capture_exchanges/src/member.rt.
 //! Members of JSON objects, and their values.
 
+use crate::cqlp_capture_exchanges::end::put_end;
 use crate::cqlp_capture_exchanges::reply::consistency_name;
 use crate::cqlp_capture_exchanges::span::{Span, sign};
 use crate::cqlp_grammar::SinkFault;
 use crate::cqlp_json::{put_bytes, put_string, put_word};
+use crate::cqlp_tcp_segment::Endpoint;
 use crate::cqlp_text::{Pen, TextWriter};
+
+/// How many nanoseconds a day has.
+const DAY: u64 = 86_400_000_000_000;
+
+/// The number that `TextWriter::put_date` takes for the first of January 1970.
+const EPOCH: u64 = 1 << 31;
 
 /// The value of a member.
 #[derive(Clone, Copy)]
@@ -17,6 +25,10 @@ pub(crate) enum Value<'a> {
     Signed(i32),
     /// With nine digits after the point; between quotes where it is more than 2^53 nanoseconds.
     Seconds(Span),
+    /// Nanoseconds since 1970-01-01 00:00:00 UTC as a date and a time of day.
+    Utc(u64),
+    /// As a socket's address is written.
+    End(Endpoint),
     /// A text that needs no escape.
     Name(&'a str),
     Text(&'a str),
@@ -33,6 +45,14 @@ pub(crate) struct Member<'a>(pub &'a str, pub Value<'a>);
 pub(crate) fn seconds_or_null(time: Option<Span>) -> Value<'static> {
     match time {
         Some(span) => Value::Seconds(span),
+        None => Value::Null,
+    }
+}
+
+/// A date and a time of day, where they are known.
+pub(crate) fn utc_or_null(time: Option<u64>) -> Value<'static> {
+    match time {
+        Some(time) => Value::Utc(time),
         None => Value::Null,
     }
 }
@@ -97,6 +117,8 @@ fn put_value<P: Pen>(writer: &mut TextWriter<P>, value: Value<'_>) -> Result<(),
         Value::Number(number) => put_big(writer, number),
         Value::Signed(number) => writer.put_signed(i64::from(number)),
         Value::Seconds(span) => put_seconds(writer, span),
+        Value::Utc(time) => put_utc(writer, time),
+        Value::End(end) => put_end_value(writer, end),
         Value::Name(name) => put_word(name, writer),
         Value::Text(text) => put_string(text, writer),
         Value::Hex(bytes) => put_bytes(bytes, writer),
@@ -137,4 +159,19 @@ fn put_seconds<P: Pen>(writer: &mut TextWriter<P>, span: Span) -> Result<(), Sin
     writer.put(b".")?;
     writer.put_digits(9, nanoseconds % 1_000_000_000)?;
     writer.put_str(quote(nanoseconds))
+}
+
+fn put_utc<P: Pen>(writer: &mut TextWriter<P>, time: u64) -> Result<(), SinkFault> {
+    let day = EPOCH + time / DAY;
+    writer.put(b"\"")?;
+    writer.put_date(day as u32)?;
+    writer.put(b"T")?;
+    writer.put_time((time % DAY) as i64)?;
+    writer.put(b"Z\"")
+}
+
+fn put_end_value<P: Pen>(writer: &mut TextWriter<P>, end: Endpoint) -> Result<(), SinkFault> {
+    writer.put(b"\"")?;
+    put_end(writer, end)?;
+    writer.put(b"\"")
 }

@@ -1,9 +1,10 @@
 // Written by dist/erase from crates/cqlp_capture_exchanges/src/object.rt.
 //! The JSON object of what is reported of a request, a response, or both.
 
+use crate::cqlp_capture_exchanges::connection::Connection;
 use crate::cqlp_capture_exchanges::member::{
     Member, Value, consistency_or_null, name_or_code, number_or_null, put_members, seconds_or_null,
-    signed_or_null, uuid_or_null,
+    signed_or_null, utc_or_null, uuid_or_null,
 };
 use crate::cqlp_capture_exchanges::prepared::{Preparation, named};
 use crate::cqlp_capture_exchanges::reply::{Reply, error_name, kind_name, message_of, reply_of};
@@ -16,16 +17,16 @@ use crate::cqlp_observer::{Facts, Frame, Kept, Message, Opening, Paired};
 use crate::cqlp_text::{Buffered, Pen, TextWriter, opcode_name};
 use crate::kit_std::alloc::Allocator;
 
-/// Takes the object of a report of the connection with this number, in a capture whose first packet came at this time, in a line of its own, and
+/// Takes the object of a report of this connection, in a capture whose first packet came at this time, in a line of its own, and
 /// passes it on.
 pub(crate) fn put_json_line<W: Target, A: Allocator, B: Allocator>(
     writer: &mut TextWriter<Buffered<W, A>>,
     known: &[Preparation<B>],
     first: Option<u64>,
-    number: u64,
+    connection: &Connection,
     report: &Report<B>,
 ) -> Result<(), SinkFault> {
-    put_report(writer, known, first, number, report)?;
+    put_report(writer, known, first, connection, report)?;
     writer.pass_on()
 }
 
@@ -34,12 +35,14 @@ fn put_report<P: Pen, A: Allocator>(
     writer: &mut TextWriter<P>,
     known: &[Preparation<A>],
     first: Option<u64>,
-    number: u64,
+    connection: &Connection,
     report: &Report<A>,
 ) -> Result<(), SinkFault> {
     match report {
-        Report::Messages { paired, end } => put_paired(writer, known, first, number, *end, paired),
-        Report::Unread { time, opening } => put_unread(writer, first, number, *time, *opening),
+        Report::Messages { paired, end } => put_paired(
+            writer, known, first, connection, *end, paired,
+        ),
+        Report::Unread { time, opening } => put_unread(writer, first, connection, *time, *opening),
     }
 }
 
@@ -47,18 +50,18 @@ fn put_report<P: Pen, A: Allocator>(
 fn put_unread<P: Pen>(
     writer: &mut TextWriter<P>,
     first: Option<u64>,
-    number: u64,
+    connection: &Connection,
     time: Option<u64>,
     opening: Opening,
 ) -> Result<(), SinkFault> {
-    put_opening(writer, first, number, time, opening)?;
+    put_opening(writer, first, connection, time, opening)?;
     writer.put(b"}\n")
 }
 
 fn put_opening<P: Pen>(
     writer: &mut TextWriter<P>,
     first: Option<u64>,
-    number: u64,
+    connection: &Connection,
     time: Option<u64>,
     opening: Opening,
 ) -> Result<(), SinkFault> {
@@ -68,7 +71,10 @@ fn put_opening<P: Pen>(
         &[
             Member("{\"told\":", Value::Name("unread")),
             Member(",\"time\":", seconds_or_null(since)),
-            Member(",\"connection\":", Value::Number(number)),
+            Member(",\"utc\":", utc_or_null(time)),
+            Member(",\"client\":", Value::End(connection.ends.client)),
+            Member(",\"node\":", Value::End(connection.ends.node)),
+            Member(",\"connection\":", Value::Number(connection.number)),
             Member(",\"protocol\":", Value::Name(protocol_name(opening))),
             Member(",\"version\":", version_or_null(opening)),
         ],
@@ -98,26 +104,20 @@ fn put_paired<P: Pen, A: Allocator>(
     writer: &mut TextWriter<P>,
     known: &[Preparation<A>],
     first: Option<u64>,
-    number: u64,
+    connection: &Connection,
     end: Option<ConnectionEnd>,
     reported: &Paired<Kept<A>>,
 ) -> Result<(), SinkFault> {
-    let place = Place { first, number };
     match reported {
         Paired::Exchange { request, response } => {
-            put_exchange(writer, known, place, request, response)
+            put_exchange(writer, known, first, connection, request, response)
         }
-        Paired::Unanswered { request } => put_unanswered(writer, known, place, end, request),
-        Paired::Unasked { response } => put_alone(writer, "unasked", place, response),
-        Paired::Event { event } => put_alone(writer, "event", place, event),
+        Paired::Unanswered { request } => put_unanswered(
+            writer, known, first, connection, end, request,
+        ),
+        Paired::Unasked { response } => put_alone(writer, "unasked", first, connection, response),
+        Paired::Event { event } => put_alone(writer, "event", first, connection, event),
     }
-}
-
-/// When the first packet came, and a connection's number.
-#[derive(Clone, Copy)]
-struct Place {
-    first: Option<u64>,
-    number: u64,
 }
 
 /// How long an exchange took, and how the connection of a request without a response ended.
@@ -139,7 +139,8 @@ impl Last {
 fn put_exchange<P: Pen, A: Allocator>(
     writer: &mut TextWriter<P>,
     known: &[Preparation<A>],
-    place: Place,
+    first: Option<u64>,
+    connection: &Connection,
     request: &Message<Kept<A>>,
     response: &Message<Kept<A>>,
 ) -> Result<(), SinkFault> {
@@ -147,13 +148,7 @@ fn put_exchange<P: Pen, A: Allocator>(
         time: took(&request.frame, &response.frame),
         end: None,
     };
-    put_place(
-        writer,
-        "exchange",
-        place.first,
-        place.number,
-        &request.frame,
-    )?;
+    put_place(writer, "exchange", first, connection, &request.frame)?;
     put_request(writer, known, request)?;
     put_response(writer, response)?;
     put_last(writer, last)?;
@@ -164,18 +159,13 @@ fn put_exchange<P: Pen, A: Allocator>(
 fn put_unanswered<P: Pen, A: Allocator>(
     writer: &mut TextWriter<P>,
     known: &[Preparation<A>],
-    place: Place,
+    first: Option<u64>,
+    connection: &Connection,
     end: Option<ConnectionEnd>,
     request: &Message<Kept<A>>,
 ) -> Result<(), SinkFault> {
     let last = Last { time: None, end };
-    put_place(
-        writer,
-        "unanswered",
-        place.first,
-        place.number,
-        &request.frame,
-    )?;
+    put_place(writer, "unanswered", first, connection, &request.frame)?;
     put_request(writer, known, request)?;
     put_last(writer, last)?;
     writer.put(b"}\n")
@@ -185,10 +175,11 @@ fn put_unanswered<P: Pen, A: Allocator>(
 fn put_alone<P: Pen, A: Allocator>(
     writer: &mut TextWriter<P>,
     reported: &str,
-    place: Place,
+    first: Option<u64>,
+    connection: &Connection,
     response: &Message<Kept<A>>,
 ) -> Result<(), SinkFault> {
-    put_place(writer, reported, place.first, place.number, &response.frame)?;
+    put_place(writer, reported, first, connection, &response.frame)?;
     put_response(writer, response)?;
     put_last(writer, Last::NONE)?;
     writer.put(b"}\n")
@@ -199,7 +190,7 @@ fn put_place<P: Pen>(
     writer: &mut TextWriter<P>,
     reported: &str,
     first: Option<u64>,
-    number: u64,
+    connection: &Connection,
     frame: &Frame,
 ) -> Result<(), SinkFault> {
     let since = time_between(first, frame.begun);
@@ -208,7 +199,10 @@ fn put_place<P: Pen>(
         &[
             Member("{\"told\":", Value::Name(reported)),
             Member(",\"time\":", seconds_or_null(since)),
-            Member(",\"connection\":", Value::Number(number)),
+            Member(",\"utc\":", utc_or_null(frame.begun)),
+            Member(",\"client\":", Value::End(connection.ends.client)),
+            Member(",\"node\":", Value::End(connection.ends.node)),
+            Member(",\"connection\":", Value::Number(connection.number)),
             Member(
                 ",\"stream\":",
                 Value::Signed(i32::from(frame.header.stream)),

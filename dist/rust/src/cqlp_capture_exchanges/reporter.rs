@@ -2,6 +2,7 @@
 //! What is reported of connections, on its way to an output.
 
 use crate::kit_host::prelude::{Vec};
+use crate::cqlp_capture_exchanges::connection::Connection;
 use crate::cqlp_capture_exchanges::filter::ExchangeFilter;
 use crate::cqlp_capture_exchanges::form::ExchangeForm;
 use crate::cqlp_capture_exchanges::lines::put_line;
@@ -71,17 +72,17 @@ impl<O: Target, A: Allocator> Reporter<O, A> {
         self.first = self.first.or(time);
     }
 
-    /// Takes a report of the connection with this number.
-    fn take_report(&mut self, number: u64, report: &Report<A>) -> Result<(), SinkFault> {
+    /// Takes a report of this connection.
+    fn take_report(&mut self, connection: &Connection, report: &Report<A>) -> Result<(), SinkFault> {
         self.sums.count(report);
-        if self.filter.shows(number, report) {
+        if self.filter.shows(connection.number, report) {
             note(&mut self.summary, self.form, &self.known, report);
             put_report(
                 &mut self.writer,
                 self.form,
                 &self.known,
                 self.first,
-                number,
+                connection,
                 report,
             )
         } else {
@@ -94,9 +95,9 @@ impl<O: Target, A: Allocator> Reporter<O, A> {
         put_ending(&mut self.writer, self.form, &self.summary)
     }
 
-    /// Takes a report of the connection with this number, and learns from it.
-    fn report(&mut self, number: u64, report: Report<A>) -> Result<(), StreamsFault> {
-        match self.take_report(number, &report) {
+    /// Takes a report of this connection, and learns from it.
+    fn report(&mut self, connection: &Connection, report: Report<A>) -> Result<(), StreamsFault> {
+        match self.take_report(connection, &report) {
             Ok(()) => {
                 self.learn(report);
                 Ok(())
@@ -108,12 +109,12 @@ impl<O: Target, A: Allocator> Reporter<O, A> {
     /// Reports messages, if there are some; where they are reported since their connection is finished, also how that ended.
     pub(crate) fn report_messages(
         &mut self,
-        number: u64,
+        connection: &Connection,
         end: Option<ConnectionEnd>,
         exchange: Option<Paired<Kept<A>>>,
     ) -> Result<(), StreamsFault> {
         match exchange {
-            Some(paired) => self.report(number, Report::Messages { paired, end }),
+            Some(paired) => self.report(connection, Report::Messages { paired, end }),
             None => Ok(()),
         }
     }
@@ -121,7 +122,7 @@ impl<O: Target, A: Allocator> Reporter<O, A> {
     /// Reports that a connection is not read, if a direction begins so at this time, unless that was reported.
     pub(crate) fn report_opening(
         &mut self,
-        number: u64,
+        connection: &Connection,
         time: Option<u64>,
         was_reported: bool,
         opening: Opening,
@@ -129,7 +130,7 @@ impl<O: Target, A: Allocator> Reporter<O, A> {
         if was_reported {
             Ok(())
         } else if is_unread(opening) {
-            self.report(number, Report::Unread { time, opening })
+            self.report(connection, Report::Unread { time, opening })
         } else {
             Ok(())
         }
@@ -164,18 +165,18 @@ impl<O: Target, A: Allocator> Reporter<O, A> {
     }
 }
 
-/// Takes what is written of a report of the connection with this number, and passes it on.
+/// Takes what is written of a report of this connection, and passes it on.
 fn put_report<W: Target, A: Allocator, B: Allocator>(
     writer: &mut TextWriter<Buffered<W, A>>,
     form: ExchangeForm,
     known: &[Preparation<B>],
     first: Option<u64>,
-    number: u64,
+    connection: &Connection,
     report: &Report<B>,
 ) -> Result<(), SinkFault> {
     match form {
-        ExchangeForm::Lines => put_line(writer, known, first, number, report),
-        ExchangeForm::Json => put_json_line(writer, known, first, number, report),
+        ExchangeForm::Lines => put_line(writer, known, first, connection.number, report),
+        ExchangeForm::Json => put_json_line(writer, known, first, connection, report),
         ExchangeForm::Summary(_) => Ok(()),
     }
 }

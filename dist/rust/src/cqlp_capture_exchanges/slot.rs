@@ -2,6 +2,7 @@
 //! One connection that is watched.
 
 use crate::kit_host::prelude::{AllocGlobal, Box, Clone, ToCopy};
+use crate::cqlp_capture_exchanges::connection::Connection;
 use crate::cqlp_capture_exchanges::report::{ConnectionEnd, is_unread};
 use crate::cqlp_capture_exchanges::reporter::Reporter;
 use crate::cqlp_capture_streams::StreamsFault;
@@ -67,21 +68,21 @@ impl<A: Allocator + Clone> Slot<A> {
     /// The streams of the connection end: reports what that delivers.
     pub(crate) fn end<O: Target>(
         &mut self,
-        number: u64,
+        connection: &Connection,
         room: WatchRoom,
         reporter: &mut Reporter<O, A>,
     ) -> Result<(), StreamsFault> {
-        end_watch(&mut self.watch, number, room, reporter)
+        end_watch(&mut self.watch, connection, room, reporter)
     }
 
     /// Reports the messages that wait, of a connection that ended so.
     pub(crate) fn let_go<O: Target>(
         &mut self,
-        number: u64,
+        connection: &Connection,
         end: ConnectionEnd,
         reporter: &mut Reporter<O, A>,
     ) -> Result<(), StreamsFault> {
-        let_go(&mut self.watch, number, end, reporter)
+        let_go(&mut self.watch, connection, end, reporter)
     }
 }
 
@@ -96,7 +97,10 @@ fn hear_delivery<O: Target, A: Allocator + Clone>(
     reporter: &mut Reporter<O, A>,
 ) -> Result<(), StreamsFault> {
     let responses = is_responses(delivered.way);
-    let number = delivered.number;
+    let connection = &Connection {
+        number: delivered.number,
+        ends: delivered.ends,
+    };
     match delivered.step {
         StreamStep::Began { syn } => {
             watch.begin(responses, syn);
@@ -109,7 +113,7 @@ fn hear_delivery<O: Target, A: Allocator + Clone>(
                 begins: from == 0,
                 bytes,
             };
-            hear_bytes(watch, is_reported, number, piece, room, reporter)
+            hear_bytes(watch, is_reported, connection, piece, room, reporter)
         }
         StreamStep::Held { time, begins } => {
             let piece = Piece {
@@ -118,13 +122,13 @@ fn hear_delivery<O: Target, A: Allocator + Clone>(
                 begins,
                 bytes,
             };
-            hear_bytes(watch, is_reported, number, piece, room, reporter)
+            hear_bytes(watch, is_reported, connection, piece, room, reporter)
         }
         StreamStep::Gap { length, time, .. } => {
-            hear_gap(watch, number, responses, length, time, room, reporter)
+            hear_gap(watch, connection, responses, length, time, room, reporter)
         }
         StreamStep::Ended | StreamStep::Reset => {
-            end_direction(watch, number, responses, room, reporter)
+            end_direction(watch, connection, responses, room, reporter)
         }
         StreamStep::Kept | StreamStep::Done => Ok(()),
     }
@@ -151,7 +155,7 @@ struct Piece<'a> {
 fn hear_bytes<O: Target, A: Allocator + Clone>(
     watch: &mut Watch<A>,
     is_reported: &mut bool,
-    number: u64,
+    connection: &Connection,
     piece: Piece<'_>,
     room: WatchRoom,
     reporter: &mut Reporter<O, A>,
@@ -173,7 +177,7 @@ fn hear_bytes<O: Target, A: Allocator + Clone>(
             opening,
             reported,
         } = step;
-        report_step(reporter, number, time, *is_reported, opening, reported)?;
+        report_step(reporter, connection, time, *is_reported, opening, reported)?;
         *is_reported = is_reported_after(*is_reported, opening);
         if is_done {
             return Ok(());
@@ -186,14 +190,14 @@ fn hear_bytes<O: Target, A: Allocator + Clone>(
 /// Reports what a step of bytes holds that were captured at this time.
 fn report_step<O: Target, A: Allocator>(
     reporter: &mut Reporter<O, A>,
-    number: u64,
+    connection: &Connection,
     time: Option<u64>,
     was_reported: bool,
     opening: Opening,
     exchange: Option<Paired<Kept<A>>>,
 ) -> Result<(), StreamsFault> {
-    match reporter.report_opening(number, time, was_reported, opening) {
-        Ok(()) => reporter.report_messages(number, None, exchange),
+    match reporter.report_opening(connection, time, was_reported, opening) {
+        Ok(()) => reporter.report_messages(connection, None, exchange),
         Err(fault) => Err(fault),
     }
 }
@@ -206,7 +210,7 @@ fn is_reported_after(was_reported: bool, opening: Opening) -> bool {
 /// So many bytes of a direction are missing, which passed at this time, where that is known.
 fn hear_gap<O: Target, A: Allocator + Clone>(
     watch: &mut Watch<A>,
-    number: u64,
+    connection: &Connection,
     responses: bool,
     length: u64,
     time: Option<u64>,
@@ -214,7 +218,7 @@ fn hear_gap<O: Target, A: Allocator + Clone>(
     reporter: &mut Reporter<O, A>,
 ) -> Result<(), StreamsFault> {
     match watch.gap(responses, length, time, room) {
-        Ok(exchange) => reporter.report_messages(number, None, exchange),
+        Ok(exchange) => reporter.report_messages(connection, None, exchange),
         Err(AllocError) => Err(StreamsFault::NoMemory),
     }
 }
@@ -222,12 +226,12 @@ fn hear_gap<O: Target, A: Allocator + Clone>(
 /// No more bytes of either direction come.
 fn end_watch<O: Target, A: Allocator + Clone>(
     watch: &mut Watch<A>,
-    number: u64,
+    connection: &Connection,
     room: WatchRoom,
     reporter: &mut Reporter<O, A>,
 ) -> Result<(), StreamsFault> {
-    match end_direction(watch, number, false, room, reporter) {
-        Ok(()) => end_direction(watch, number, true, room, reporter),
+    match end_direction(watch, connection, false, room, reporter) {
+        Ok(()) => end_direction(watch, connection, true, room, reporter),
         Err(fault) => Err(fault),
     }
 }
@@ -235,13 +239,13 @@ fn end_watch<O: Target, A: Allocator + Clone>(
 /// No more bytes of a direction come.
 fn end_direction<O: Target, A: Allocator + Clone>(
     watch: &mut Watch<A>,
-    number: u64,
+    connection: &Connection,
     responses: bool,
     room: WatchRoom,
     reporter: &mut Reporter<O, A>,
 ) -> Result<(), StreamsFault> {
     match watch.end(responses, room) {
-        Ok(exchange) => reporter.report_messages(number, None, exchange),
+        Ok(exchange) => reporter.report_messages(connection, None, exchange),
         Err(AllocError) => Err(StreamsFault::NoMemory),
     }
 }
@@ -249,12 +253,12 @@ fn end_direction<O: Target, A: Allocator + Clone>(
 /// Reports the messages that wait, of a connection that ended so.
 fn let_go<O: Target, A: Allocator + Clone>(
     watch: &mut Watch<A>,
-    number: u64,
+    connection: &Connection,
     end: ConnectionEnd,
     reporter: &mut Reporter<O, A>,
 ) -> Result<(), StreamsFault> {
     while let Some(exchange) = watch.finish() {
-        reporter.report_messages(number, Some(end), Some(exchange))?;
+        reporter.report_messages(connection, Some(end), Some(exchange))?;
     }
     Ok(())
 }

@@ -2,6 +2,7 @@
 //! The connections that are watched.
 
 use crate::kit_host::prelude::{AllocGlobal, Clone, ToCopy};
+use crate::cqlp_capture_exchanges::connection::Connection;
 use crate::cqlp_capture_exchanges::pool::{ExchangeLimits, Pool};
 use crate::cqlp_capture_exchanges::report::end_of;
 use crate::cqlp_capture_exchanges::reporter::Reporter;
@@ -9,7 +10,7 @@ use crate::cqlp_capture_exchanges::slot::Slot;
 use crate::cqlp_capture_streams::StreamsFault;
 use crate::cqlp_note::Target;
 use crate::cqlp_observer::{Missed, WatchRoom};
-use crate::cqlp_tcp_connections::{ConnectionTotals, Delivery};
+use crate::cqlp_tcp_connections::{ConnectionTotals, Delivery, Ends};
 use crate::kit_std::alloc::{AllocError, Allocator, Global};
 use crate::kit_std::collections::BTreeMap;
 
@@ -103,10 +104,17 @@ fn let_leave<O: Target, A: Allocator + Clone>(
     let old = slot.held();
     let room = pool.room_for(old);
     pool.exchange(old, NONE);
-    match slot.end(totals.number, room, reporter) {
+    let connection = Connection {
+        number: totals.number,
+        ends: Ends {
+            client: totals.client,
+            node: totals.node,
+        },
+    };
+    match slot.end(&connection, room, reporter) {
         Ok(()) => {
             missed.add(&slot.missed());
-            slot.let_go(totals.number, end_of(totals), reporter)
+            slot.let_go(&connection, end_of(totals), reporter)
         }
         Err(fault) => Err(fault),
     }

@@ -7,7 +7,7 @@ use Rattle.cqlp_capture_exchanges.proofs.slot.end_watch.Goals as goal
 
 pub returns-in-Ok-clause-reports : goal.returns-in-Ok-clause-reports
 returns-in-Ok-clause-reports g c = λ known.
-    let n = c.args.number in
+    let n = c.args.connection.now in
     let first = after_end false c.args.room c.args.watch.now in
     let mid = c.end_direction.new.reporter in
     let last = c.end_direction-in-Ok in
@@ -18,11 +18,11 @@ returns-in-Ok-clause-reports g c = λ known.
 pub returns-in-Err-clause-reports : goal.returns-in-Err-clause-reports
 returns-in-Err-clause-reports g c = λ known.
     let first = after_end false c.args.room c.args.watch.now in
-    fails_first c.args.number (messages None first.reported) (messages None (after_end true c.args.room first.after).reported) c.args.reporter.now c.end_direction.new.reporter c.in-Err.fault (c.in-Err.ensures.reports known)
+    fails_first c.args.connection.now (messages None first.reported) (messages None (after_end true c.args.room first.after).reported) c.args.reporter.now c.end_direction.new.reporter c.in-Err.fault (c.in-Err.ensures.reports known)
 
 pub returns-in-Ok-clause-after : goal.returns-in-Ok-clause-after
 returns-in-Ok-clause-after g c = λ known.
-    let n = c.args.number in
+    let n = c.args.connection.now in
     let first = after_end false c.args.room c.args.watch.now in
     let mid = c.end_direction.new.reporter in
     let last = c.end_direction-in-Ok in

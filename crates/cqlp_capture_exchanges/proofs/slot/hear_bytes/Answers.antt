@@ -8,7 +8,7 @@ use Rattle.cqlp_capture_exchanges.proofs.slot.hear_bytes.Goals as goal
 
 pub loop-unread-preserved : goal.loop-unread-preserved
 loop-unread-preserved g c = λ known.
-    let n = c.args.number in
+    let n = c.args.connection.now in
     let start = c.args.reporter.now in
     let whole = bytes_heard c.args.piece.responses c.args.piece.time c.args.piece.begins c.args.room c.args.piece.bytes.now (slot c.args.watch.now c.args.is_reported.now) in
     let l = c.loop-unread in
@@ -24,7 +24,7 @@ loop-unread-preserved g c = λ known.
 
 pub returns-in_default-clause-reports : goal.returns-in_default-clause-reports
 returns-in_default-clause-reports g c = λ known.
-    let n = c.args.number in
+    let n = c.args.connection.now in
     let start = c.args.reporter.now in
     let whole = bytes_heard c.args.piece.responses c.args.piece.time c.args.piece.begins c.args.room c.args.piece.bytes.now (slot c.args.watch.now c.args.is_reported.now) in
     let l = c.loop-unread in
@@ -34,7 +34,7 @@ returns-in_default-clause-reports g c = λ known.
 
 pub returns-in_err-report_step-clause-reports : goal.returns-in_err-report_step-clause-reports
 returns-in_err-report_step-clause-reports g c = λ known.
-    let n = c.args.number in
+    let n = c.args.connection.now in
     let start = c.args.reporter.now in
     let whole = bytes_heard c.args.piece.responses c.args.piece.time c.args.piece.begins c.args.room c.args.piece.bytes.now (slot c.args.watch.now c.args.is_reported.now) in
     let l = c.loop-unread in
@@ -50,7 +50,7 @@ returns-in_err-report_step-clause-reports g c = λ known.
 
 pub returns-then-is_done-clause-reports : goal.returns-then-is_done-clause-reports
 returns-then-is_done-clause-reports g c = λ known.
-    let n = c.args.number in
+    let n = c.args.connection.now in
     let start = c.args.reporter.now in
     let whole = bytes_heard c.args.piece.responses c.args.piece.time c.args.piece.begins c.args.room c.args.piece.bytes.now (slot c.args.watch.now c.args.is_reported.now) in
     let l = c.loop-unread in
@@ -65,7 +65,7 @@ returns-then-is_done-clause-reports g c = λ known.
 
 pub returns-then-is_done-clause-after : goal.returns-then-is_done-clause-after
 returns-then-is_done-clause-after g c = λ known.
-    let n = c.args.number in
+    let n = c.args.connection.now in
     let start = c.args.reporter.now in
     let whole = bytes_heard c.args.piece.responses c.args.piece.time c.args.piece.begins c.args.room c.args.piece.bytes.now (slot c.args.watch.now c.args.is_reported.now) in
     let l = c.loop-unread in
@@ -81,7 +81,7 @@ returns-then-is_done-clause-after g c = λ known.
 
 pub returns-clause-reports : goal.returns-clause-reports
 returns-clause-reports g c = λ known.
-    let n = c.args.number in
+    let n = c.args.connection.now in
     let start = c.args.reporter.now in
     let whole = bytes_heard c.args.piece.responses c.args.piece.time c.args.piece.begins c.args.room c.args.piece.bytes.now (slot c.args.watch.now c.args.is_reported.now) in
     let l = c.loop-unread in
@@ -91,7 +91,7 @@ returns-clause-reports g c = λ known.
 
 pub returns-clause-after : goal.returns-clause-after
 returns-clause-after g c = λ known.
-    let n = c.args.number in
+    let n = c.args.connection.now in
     let start = c.args.reporter.now in
     let whole = bytes_heard c.args.piece.responses c.args.piece.time c.args.piece.begins c.args.room c.args.piece.bytes.now (slot c.args.watch.now c.args.is_reported.now) in
     let l = c.loop-unread in

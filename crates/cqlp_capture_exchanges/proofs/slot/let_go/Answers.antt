@@ -13,7 +13,7 @@ loop-exchange-init g c = λ known. hearing_starts _ _ _
 
 pub loop-exchange-preserved : goal.loop-exchange-preserved
 loop-exchange-preserved g c = λ known.
-    let n = c.args.number in
+    let n = c.args.connection.now in
     let start = c.args.reporter.now in
     let w = c.loop-exchange.watch in
     let whole = talk (remaining c.args.end c.args.watch.now.waiting) new_slot in
@@ -29,7 +29,7 @@ loop-exchange-preserved g c = λ known.
 
 pub returns-in_err-report_messages : goal.returns-in_err-report_messages
 returns-in_err-report_messages g c = λ known.
-    let n = c.args.number in
+    let n = c.args.connection.now in
     let start = c.args.reporter.now in
     let w = c.loop-exchange.watch in
     let whole = talk (remaining c.args.end c.args.watch.now.waiting) new_slot in
@@ -46,7 +46,7 @@ returns-in_err-report_messages g c = λ known.
 
 pub returns : goal.returns
 returns g c = λ known.
-    let n = c.args.number in
+    let n = c.args.connection.now in
     let start = c.args.reporter.now in
     let w = c.loop-exchange.watch in
     let whole = talk (remaining c.args.end c.args.watch.now.waiting) new_slot in
