@@ -15,7 +15,9 @@ captures/generated.py CASE FILE: writes the capture of a case of captures/genera
 """
 import bisect
 import collections
+import datetime
 import heapq
+import ipaddress
 import itertools
 import random
 import struct
@@ -153,6 +155,20 @@ def error(chance):
 
 def event():
     return Template("EVENT", string("STATUS_CHANGE") + string("UP") + bytes([4, 127, 0, 0, 1]) + whole(9042))
+
+
+# ---- where and when
+
+def end_text(end):
+    address, port = end
+    return f"{ipaddress.IPv4Address(address)}:{port}"
+
+
+def utc(time):
+    """Nanoseconds since 1970-01-01 00:00:00 UTC as a date and a time of day (ISO 8601)."""
+    seconds, rest = divmod(time, 1_000 * MS)
+    moment = datetime.datetime.fromtimestamp(seconds, datetime.timezone.utc)
+    return f"{moment:%Y-%m-%dT%H:%M:%S}.{rest:09}Z"
 
 
 # ---- a conversation over TCP, in simulated time
@@ -514,44 +530,45 @@ class Capture:
         """The objects that --json is to write, and those that it may write in place of two of them: a request whose response was not captured with the response
         to a later request under its stream id that was not captured either, which nothing in the capture distinguishes."""
         due, doubtful = [], []
-        for connection, number in self.numbers.items():
+        for connection in self.numbers:
             seen = {}
             for way in (CLIENT, NODE):
                 seen.update(zip(map(id, connection.messages[way]), self.shown(connection, way)))
             for request in connection.messages[CLIENT]:
                 response = request.partner
                 if seen[id(request)].is_seen:
-                    due.append(self.object(number, seen, request, response if response and seen[id(response)].is_seen else None))
+                    due.append(self.object(connection, seen, request, response if response and seen[id(response)].is_seen else None))
             for response in connection.messages[NODE]:
                 if seen[id(response)].is_seen and not (response.partner and seen[id(response.partner)].is_seen):
-                    due.append(self.object(number, seen, None, response))
-            doubtful += self.doubts(number, seen, connection.messages[CLIENT])
+                    due.append(self.object(connection, seen, None, response))
+            doubtful += self.doubts(connection, seen)
         return due, doubtful
 
-    def doubts(self, number, seen, requests):
+    def doubts(self, connection, seen):
         waiting = {}
-        for request in requests:
+        for request in connection.messages[CLIENT]:
             response = request.partner
             if seen[id(request)].is_seen:
                 waiting.pop(request.stream, None)
             if response and seen[id(response)].is_seen:
                 earlier = waiting.pop(request.stream, None)
                 if earlier:
-                    alone = self.object(number, seen, earlier, None), self.object(number, seen, None, response)
-                    yield self.object(number, seen, earlier, response), alone
+                    alone = self.object(connection, seen, earlier, None), self.object(connection, seen, None, response)
+                    yield self.object(connection, seen, earlier, response), alone
             elif seen[id(request)].is_seen:
                 waiting[request.stream] = request
 
-    def object(self, number, seen, request, response):
+    def object(self, connection, seen, request, response):
         kind = "event" if response and response.stream < 0 else "exchange" if request and response else "unanswered" if request else "unasked"
-        found = {"told": kind, "connection": number, "stream": (request or response).stream}
+        found = {"told": kind, "connection": self.numbers[connection], "stream": (request or response).stream}
+        found["client"], found["node"] = map(end_text, connection.ends)
         for side, message in (("request", request), ("response", response)):
             if message:
                 is_whole = seen[id(message)].is_whole
                 found.update({side: message.template.opcode, f"{side}_bytes": message.end - message.begin, f"{side}_is_whole": is_whole})
                 found.update({key: value for key, value in message.template.facts.items() if is_whole})
         begun = seen[id(request or response)].begun
-        found["time"] = begun - self.segments[0].time
+        found["time"], found["utc"] = begun - self.segments[0].time, utc(begun)
         if kind == "exchange" and seen[id(response)].ended is not None:
             found["took"] = seen[id(response)].ended - begun
         return found

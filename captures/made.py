@@ -10,6 +10,7 @@ contents     256 connections, of each of which both directions have a text that 
 packets      packets as long as a record may have, and IP and TCP headers whose lengths are the greatest
 headers      a request over IPv6, before whose segments headers come: of fragments that are whole packets, authentication, options; and two of fragments
              that are not
+addresses    a request from each of 293 addresses of IPv6: with zeros at all places, of one to four digits, and of hosts of IPv4
 record       a record whose length is the greatest that its field can say
 batches      BATCHes and what answers them: of no statement, of a text and an id, of a statement that was prepared, of a long text, of a kind of statement
              that there is none of, and one that is compressed
@@ -34,6 +35,8 @@ deep         eight connections, on each of which 32,768 requests are open, and 1
 scattered    32 connections, of both of whose directions only each second byte comes, in packets of a byte
 block        a pcapng file with as many interfaces as there may be, options and a packet of 262,144 bytes, and a block of 4 GiB that never comes
 
+captures/made.py ends FILE COMMAND..: runs it with --json over the capture of addresses, and prints each object that names another client or node.
+
 captures/made.py long FILE [MB]: writes a capture of so many MB of zeros, of which the file system keeps next to nothing, 130 where it is not said.
 
 captures/made.py most COMMAND..: runs it, and prints its status and how many KiB of memory it had at most.
@@ -42,6 +45,8 @@ captures/made.py terminal COMMAND..: runs it with a terminal as its standard err
 
 captures/made.py interrupted CAPTURE COMMAND..: on a terminal, writes the capture into a pipe that the command reads and that stays open, types ^C until it ends, and prints
 what is written on the terminal."""
+import ipaddress
+import json
 import os
 import pty
 import resource
@@ -392,12 +397,12 @@ def passed():
     yield from [enhanced(asked, 2), packet_block(b"", 1, captured=1), block(6, bytes(12)), enhanced(asked, 3), enhanced(answered, 1)]
 
 
-def over_6(number, payload, *headers):
-    """A record of a packet of IPv6, with each of these headers: its number, and its bytes after the number of the next."""
+def over_6(number, payload, *headers, client=1):
+    """A record of a packet of IPv6 from this address, with each of these headers: its number, and its bytes after the number of the next."""
     kind, content = 6, segment(0, 10_000, number, payload)[20:]
     for before, rest in reversed(headers):
         kind, content = before, bytes([kind]) + rest + content
-    return record(struct.pack(">IHBB", 6 << 28, len(content), kind, 64) + (1).to_bytes(16) + (2).to_bytes(16) + content)
+    return record(struct.pack(">IHBB", 6 << 28, len(content), kind, 64) + client.to_bytes(16) + (2).to_bytes(16) + content)
 
 
 def headers():
@@ -406,6 +411,35 @@ def headers():
     sent = query(0)
     for i, before in enumerate([(), (whole,), (authentication,), (options, whole, authentication), (first,), (options, last)]):
         yield over_6(i * 90, sent[i * 90:i * 90 + 90], *before)
+
+
+def addresses():
+    """Addresses of IPv6, and how they are written (RFC 5952)."""
+    segments = [0x2001, 0xDB8, 0x1, 0xF0, 0xABC, 0x10, 0x1000, 0xFFFF]
+    for mask in range(256):
+        number = sum((0 if mask >> i & 1 else segment) << 16 * (7 - i) for i, segment in enumerate(segments))
+        yield number, ipaddress.IPv6Address(number).compressed
+    for number in [0x0A000001, 0, 0xFFFFFFFF, 0xC0A80000, 0x7F000001]:
+        yield 0xFFFF << 32 | number, f"::ffff:{ipaddress.IPv4Address(number)}"
+    for i in range(32):
+        number = 0xFFFF << 32 ^ 1 << 4 * i
+        yield number, f"::ffff:{ipaddress.IPv4Address(number & 0xFFFFFFFF)}" if number >> 32 == 0xFFFF else ipaddress.IPv6Address(number).compressed
+
+
+def from_addresses():
+    for client, _ in addresses():
+        yield over_6(0, query(0), client=client)
+
+
+def print_other_ends(file, command):
+    lines = subprocess.run([*command, "--json", file], stdout=subprocess.PIPE, stderr=subprocess.DEVNULL, text=True).stdout.splitlines()
+    found = sorted((of["client"], of["node"]) for of in map(json.loads, lines))
+    due = sorted((f"[{text}]:10000", "[::2]:9042") for _, text in addresses())
+    for pair in zip(found, due):
+        if pair[0] != pair[1]:
+            print(*pair)
+    if len(found) != len(due):
+        print(len(found), "objects, not", len(due))
 
 
 def on(port, *directions, syn=True):
@@ -450,8 +484,8 @@ def capture(kind, *count):
         return of_pcap(wraps(), 1)
     made = {"connections": connections, "lost": lost, "requests": requests, "contents": contents, "pages": pages, "packets": packets,
             "prepared": lambda: in_turn(statements_in_turn()), "statements": lambda: in_turn(many_statements()),
-            "crowd": crowd, "laden": laden, "deep": deep, "scattered": scattered, "headers": headers, "record": greatest_record, "batches": batches,
-            "flight": flight, "versions": versions, "tls": tls, "parted": parted}[kind]
+            "crowd": crowd, "laden": laden, "deep": deep, "scattered": scattered, "headers": headers, "addresses": from_addresses, "record": greatest_record,
+            "batches": batches, "flight": flight, "versions": versions, "tls": tls, "parted": parted}[kind]
     return of_pcap(made(*map(int, count)))
 
 
@@ -507,6 +541,8 @@ def print_interrupted(file, *command):
 if __name__ == "__main__":
     if sys.argv[1] == "most":
         print_most(sys.argv[2:])
+    elif sys.argv[1] == "ends":
+        print_other_ends(sys.argv[2], sys.argv[3:])
     elif sys.argv[1] == "long":
         write_long(*sys.argv[2:])
     elif sys.argv[1] == "terminal":

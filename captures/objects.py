@@ -1,8 +1,9 @@
 #!/usr/bin/env python3
 """captures/objects.py FILE COMMAND..: prints what is wrong with the objects (--json) and the summary (--summary) that `cqlp capture` writes of a
-capture, beside its lines, which lines.py reads in another way. Each object has to say what its line says, and each statement of the summary
-what its lines add up to."""
+capture, beside its lines, which lines.py reads in another way. Each object has to say what its line says, all the same first moment, and those of a
+connection the same ends; and each statement of the summary what its lines add up to."""
 import collections
+import datetime
 import json
 import subprocess
 import sys
@@ -79,6 +80,12 @@ def differs(text, of):
     return rest != line(of)
 
 
+def first_moment(of):
+    """When the first packet came by an object, in seconds since 1970."""
+    moment = datetime.datetime.fromisoformat(of["utc"][:19] + "+00:00")
+    return int(moment.timestamp()) + Decimal(of["utc"][19:-1]) - of["time"]
+
+
 def sums(objects):
     """How often each statement was asked for, its errors, how many were not answered, its rows and bytes."""
     found = collections.OrderedDict()
@@ -104,6 +111,10 @@ def main(file, *command):
     for text, of in zip(lines, objects):
         if differs(text, of):
             print(f"{text}\n{line(of)}")
+    moments = set(map(first_moment, objects))
+    connections = {of["connection"] for of in objects}
+    if len(moments) > 1 or len({(of["connection"], of["client"], of["node"]) for of in objects}) != len(connections):
+        print(f"not one beginning, or not one client and node of a connection: {moments}")
     counted = {}
     for text in summary[1:]:
         words = text.split(None, 11)
