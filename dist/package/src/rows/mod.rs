@@ -107,6 +107,8 @@ pub use cells::{NotRead, RowCells};
 pub use error::{Mismatch, RowError};
 pub use from_cell::FromCell;
 pub use from_row::{FromRow, Row};
+#[doc(hidden)]
+pub use from_row::{is_wide, set_field};
 pub use newtypes::{Counter, Date, Decimal, Time, Timestamp, Timeuuid, Uuid, Varint};
 pub use reading::PageHead;
 pub use sink::{CELL_LIMITS, RowSink};

@@ -17,7 +17,7 @@ use crate::rows::cell::{LentCell, Place, lend};
 use crate::rows::cells::{NotRead, RowCells, WhyNot};
 use crate::rows::error::RowError;
 use crate::rows::feed::{TakesCells, feed, for_kinds, implement};
-use crate::rows::from_row::{FromRow, Row};
+use crate::rows::from_row::{FromRow, Row, read};
 use crate::rows::reading::{Names, PageHead, Reading, Taken};
 use crate::rows::sink::CELL_LIMITS;
 
@@ -250,7 +250,7 @@ impl<'a, R: AsMut<PageReader>, T: FromRow<'a>> PageRows<'a, R, T> {
             return self.next_by_columns();
         }
         let mut cells = RowCells { rest: self.rest, kinds: &self.kinds, limits: &self.limits };
-        match T::read(&mut cells) {
+        match read::<T>(&mut cells) {
             Ok(Some(row)) => {
                 self.rest = cells.rest;
                 if self.kinds.len() > T::WIDTH {

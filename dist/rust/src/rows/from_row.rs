@@ -40,6 +40,61 @@ pub trait FromRow<'a>: Row {
     }
 }
 
+/// The most fields of a type whose reading is compiled into each place where a field or a row is made, which is the fastest. That of a wider
+/// type is compiled once, in functions of its own: in all those places it would take the compiler minutes.
+const NARROW: usize = 16;
+
+/// Whether a type with so many fields is a wide one.
+#[doc(hidden)]
+#[must_use]
+pub const fn is_wide(width: usize) -> bool {
+    width > NARROW
+}
+
+/// Sets a field of a row.
+#[inline(always)]
+pub(crate) fn set<'a, T: FromRow<'a>>(partial: &mut T::Partial, field: usize, cell: LentCell<'a, '_>) -> Result<(), Mismatch> {
+    if is_wide(T::WIDTH) { set_apart::<T>(partial, field, cell) } else { T::set(partial, field, cell) }
+}
+
+#[inline(never)]
+fn set_apart<'a, T: FromRow<'a>>(partial: &mut T::Partial, field: usize, cell: LentCell<'a, '_>) -> Result<(), Mismatch> {
+    T::set(partial, field, cell)
+}
+
+/// Sets the field that lies here, of a type that is wide or not.
+///
+/// # Errors
+///
+/// As [`FromCell::from_cell`].
+#[doc(hidden)]
+#[inline(always)]
+pub fn set_field<'a, const WIDE: bool, T: FromCell<'a>>(field: &mut Option<T>, cell: LentCell<'a, '_>) -> Result<(), Mismatch> {
+    if WIDE {
+        set_field_apart(field, cell)
+    } else {
+        *field = Some(T::from_cell(cell)?);
+        Ok(())
+    }
+}
+
+#[inline(never)]
+fn set_field_apart<'a, T: FromCell<'a>>(field: &mut Option<T>, cell: LentCell<'a, '_>) -> Result<(), Mismatch> {
+    *field = Some(T::from_cell(cell)?);
+    Ok(())
+}
+
+/// Reads a row.
+#[inline(always)]
+pub(crate) fn read<'a, T: FromRow<'a>>(cells: &mut RowCells<'a, '_>) -> Result<Option<T>, NotRead> {
+    if is_wide(T::WIDTH) { read_apart(cells) } else { T::read(cells) }
+}
+
+#[inline(never)]
+fn read_apart<'a, T: FromRow<'a>>(cells: &mut RowCells<'a, '_>) -> Result<Option<T>, NotRead> {
+    T::read(cells)
+}
+
 /// Implements both traits for tuples of these types.
 macro_rules! tuples {
     ($($type:ident $place:tt)+; $width:literal) => {
@@ -123,12 +178,20 @@ macro_rules! row {
             #[allow(non_camel_case_types)]
             enum __Field { $($field),+ }
 
+            /// The number of each field.
+            struct __At;
+
+            #[allow(non_upper_case_globals)]
+            impl __At { $(const $field: usize = __Field::$field as usize;)+ }
+
+            const __WIDTH: usize = [$(__At::$field),+].len();
+
             #[derive(Default)]
             pub struct __Partial<$($life)?> { $($field: ::core::option::Option<$type>),+ }
 
             impl<$($life)?> $crate::rows::Row for $name<$($life)?> {
                 type Partial = __Partial<$($life)?>;
-                const WIDTH: usize = [$($crate::row!(= $field $column)),+].len();
+                const WIDTH: usize = __WIDTH;
                 const NAMES: ::core::option::Option<&'static [&'static str]> =
                     ::core::option::Option::Some(&[$($crate::row!(= $field $column)),+]);
 
@@ -145,19 +208,18 @@ macro_rules! row {
                     field: usize,
                     cell: $crate::rows::LentCell<$cell, '_>,
                 ) -> ::core::result::Result<(), $crate::rows::Mismatch> {
-                    $(if field == __Field::$field as usize {
-                        partial.$field = ::core::option::Option::Some($crate::rows::FromCell::from_cell(cell)?);
-                        return ::core::result::Result::Ok(());
-                    })+
-                    ::core::result::Result::Ok(())
+                    match field {
+                        $(__At::$field => $crate::rows::set_field::<{ $crate::rows::is_wide(__WIDTH) }, _>(&mut partial.$field, cell),)+
+                        _ => ::core::result::Result::Ok(()),
+                    }
                 }
 
                 #[inline(always)]
                 fn read(
                     cells: &mut $crate::rows::RowCells<$cell, '_>,
                 ) -> ::core::result::Result<::core::option::Option<Self>, $crate::rows::NotRead> {
-                    let mut first = cells.first([$(__Field::$field as usize),+].len());
-                    let row = $name { $($field: first.take(__Field::$field as usize)?),+ };
+                    let mut first = cells.first(__WIDTH);
+                    let row = $name { $($field: first.take(__At::$field)?),+ };
                     cells.pass(first);
                     ::core::result::Result::Ok(::core::option::Option::Some(row))
                 }

@@ -10,7 +10,7 @@ use crate::cqlp_message::Spec;
 use crate::cqlp_note::{Field, Header};
 use crate::rows::cell::{LentCell, NotHeld, OpenCell, Place, Step};
 use crate::rows::error::{Mismatch, RowError};
-use crate::rows::from_row::{FromRow, Row};
+use crate::rows::from_row::{FromRow, Row, set};
 
 /// What a frame says beside its cells.
 #[derive(Clone, Debug, Default, PartialEq, Eq)]
@@ -176,7 +176,7 @@ impl<T: Row> Reading<T> {
         T: FromRow<'a>,
     {
         let field = self.field_of(column);
-        match T::set(&mut self.partial, field, cell) {
+        match set::<T>(&mut self.partial, field, cell) {
             Ok(()) => Ok(column == self.last),
             Err(why) => Err(self.give_up_cell(row, column, why)),
         }
@@ -216,7 +216,7 @@ impl<T: Row> Reading<T> {
     {
         let (row, column) = (self.open.row, self.open.column);
         let field = self.field_of(column);
-        match T::set(&mut self.partial, field, self.open.lend(page)) {
+        match set::<T>(&mut self.partial, field, self.open.lend(page)) {
             Ok(()) => Ok(column == self.last),
             Err(why) => Err(self.give_up_cell(row, column, why)),
         }
@@ -229,7 +229,7 @@ impl<T: Row> Reading<T> {
     {
         let (row, column) = (self.open.row, self.open.column);
         let field = self.field_of(column);
-        match T::set(&mut self.partial, field, self.open.lend_copied()) {
+        match set::<T>(&mut self.partial, field, self.open.lend_copied()) {
             Ok(()) => Ok(column == self.last),
             Err(why) => Err(self.give_up_cell(row, column, why)),
         }
