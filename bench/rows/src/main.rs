@@ -27,7 +27,31 @@ fn sum_of(id: i32, total: i64, name: &str, paid: bool) -> u64 {
     (id as u64).wrapping_add(total as u64).wrapping_add(name.len() as u64 + u64::from(name.as_bytes()[15])).wrapping_add(paid.into())
 }
 
-/// The sum of the ints of a list or of the values of a map, and of the lengths of its keys.
+/// The sum of the ints of a list.
+struct SumOfList(u64);
+
+impl<'a> FromCell<'a> for SumOfList {
+    fn from_cell(cell: LentCell<'a, '_>) -> Result<Self, Mismatch> {
+        let LentCell::Items(items) = cell else { return Err(Mismatch::Null { wanted: "items" }) };
+        let mut sum = 0_u64;
+        items.read_each(|item: i32| sum = sum.wrapping_add(item as u64))?;
+        Ok(SumOfList(sum))
+    }
+}
+
+/// The sum of the values of a map and of the lengths of its keys.
+struct SumOfMap(u64);
+
+impl<'a> FromCell<'a> for SumOfMap {
+    fn from_cell(cell: LentCell<'a, '_>) -> Result<Self, Mismatch> {
+        let LentCell::Items(items) = cell else { return Err(Mismatch::Null { wanted: "items" }) };
+        let mut sum = 0_u64;
+        items.read_pairs(|key: &str, value: i32| sum = sum.wrapping_add(key.len() as u64).wrapping_add(value as u64))?;
+        Ok(SumOfMap(sum))
+    }
+}
+
+/// Either of both, item by item.
 struct Sum(u64);
 
 impl<'a> FromCell<'a> for Sum {
@@ -103,6 +127,7 @@ fn tasks<'a>(name: &str, page: &'a [u8]) -> Vec<(&'static str, Run<'a>, Run<'a>)
         "collections" => vec![
             ("owned lists and maps", Box::new(|| collections_by_hand(page)), Box::new(|| collections(page))),
             ("lent lists and maps, summed", Box::new(|| sums_by_hand(page)), Box::new(|| sums(page))),
+            ("lent lists and maps, item by item", Box::new(|| sums_by_hand(page)), Box::new(|| item_sums(page))),
         ],
         _ => vec![("structs of 200 fields", Box::new(|| columns_by_hand(page)), Box::new(|| columns(page)))],
     };
@@ -163,6 +188,11 @@ fn sums_by_hand(page: &[u8]) -> u64 {
 }
 
 fn sums(page: &[u8]) -> u64 {
+    let rows = page_rows::<(SumOfList, SumOfMap)>(page).expect("a page").map(|row| row.expect("a row"));
+    rows.fold(0, |sum, (list, map)| sum.wrapping_add(list.0).wrapping_add(map.0))
+}
+
+fn item_sums(page: &[u8]) -> u64 {
     let rows = page_rows::<(Sum, Sum)>(page).expect("a page").map(|row| row.expect("a row"));
     rows.fold(0, |sum, (list, map)| sum.wrapping_add(list.0).wrapping_add(map.0))
 }

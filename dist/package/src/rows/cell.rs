@@ -5,6 +5,7 @@ use alloc::vec::Vec;
 use crate::cqlp_build_cells::CellLimits;
 use crate::cqlp_kind::{Kind, Scalar};
 use crate::rows::error::Mismatch;
+use crate::rows::items::LentItems;
 
 /// A cell of a page, or an item of one. Its contents are lent from the page for `'a`, or from what a sink holds. Section 6 of
 /// `native_protocol_v4.spec`.
@@ -31,67 +32,14 @@ impl<'a> LentCell<'a, '_> {
             LentCell::Empty => Mismatch::Empty { wanted },
             LentCell::Scalar(Scalar::Raw(_)) => Mismatch::Untyped { wanted },
             LentCell::Scalar(scalar) => Mismatch::Type { wanted, came: kind_of(scalar) },
-            LentCell::Items(items) => Mismatch::Type { wanted, came: items.kind },
+            LentCell::Items(items) => Mismatch::Type { wanted, came: items.kind() },
         }
-    }
-}
-
-/// The items of a value, an iterator over them: those of a list or a set, the keys and values of a map by turns, the fields of a
-/// tuple or a user-defined value.
-#[derive(Clone, Copy, Debug)]
-pub struct LentItems<'a, 's> {
-    kind: Kind,
-    count: u32,
-    steps: &'s [Step],
-    bytes: &'a [u8],
-}
-
-impl LentItems<'_, '_> {
-    /// The kind of the value.
-    #[must_use]
-    pub fn kind(&self) -> Kind {
-        self.kind
-    }
-
-    /// How many items a list or a set has, how many pairs a map has, how many fields the type of a tuple has, of which a value
-    /// may leave out the last.
-    #[must_use]
-    pub fn items(&self) -> u32 {
-        self.count
-    }
-
-    /// How many items there may be at most, which is no more than came.
-    #[must_use]
-    pub(crate) fn room(&self) -> usize {
-        self.steps.len().min(self.count as usize)
-    }
-}
-
-impl<'a, 's> Iterator for LentItems<'a, 's> {
-    type Item = LentCell<'a, 's>;
-
-    #[inline]
-    fn next(&mut self) -> Option<LentCell<'a, 's>> {
-        let (&step, mut rest) = self.steps.split_first()?;
-        let cell = match step {
-            Step::Null => LentCell::Null,
-            Step::Empty => LentCell::Empty,
-            Step::Plain(scalar) => LentCell::Scalar(scalar),
-            Step::Content { kind, start, len } => LentCell::Scalar(content(kind, self.bytes, start, len)),
-            Step::Enter { kind, count, len } => {
-                let (steps, after) = rest.split_at(rest.len().min(len as usize));
-                rest = after;
-                LentCell::Items(LentItems { kind, count, steps, bytes: self.bytes })
-            }
-        };
-        self.steps = rest;
-        Some(cell)
     }
 }
 
 /// The scalar of this kind whose content lies here. The decoder took these bytes for one.
 #[inline]
-fn content(kind: Kind, bytes: &[u8], start: u32, len: u32) -> Scalar<'_> {
+pub(crate) fn content(kind: Kind, bytes: &[u8], start: u32, len: u32) -> Scalar<'_> {
     let bytes = bytes_at(bytes, start, len as usize);
     match Scalar::from_bytes(kind, bytes) {
         Some(Ok(scalar)) => scalar,
@@ -222,8 +170,7 @@ impl OpenCell {
 
     /// The whole cell, whose contents lie in these bytes.
     pub(crate) fn lend<'a>(&self, bytes: &'a [u8]) -> LentCell<'a, '_> {
-        let mut whole = LentItems { kind: Kind::Tuple, count: 1, steps: &self.steps, bytes };
-        whole.next().unwrap_or(LentCell::Null)
+        LentItems::held(Kind::Tuple, 1, &self.steps, bytes).next().unwrap_or(LentCell::Null)
     }
 
     /// The whole cell, whose contents were copied.

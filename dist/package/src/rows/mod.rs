@@ -1,9 +1,9 @@
 //! Rows of pages as Rust types, and Rust types as values to bind.
 //!
 //! This module is written by hand over the public calls of the package, without `unsafe`, and **is not proved**. What it reads was
-//! decoded by a [`Decoder`](crate::Decoder), or, in a page that is whole in memory and has no column with items, cell by cell by
+//! decoded by a [`Decoder`](crate::Decoder), or, in a page that is whole in memory, cell by cell and item by item by
 //! [`read_cell`](crate::frame::read_cell); what it binds is written by [`bind_value`](crate::frame::bind_value). The sources of all three
-//! are proved.
+//! are proved. That counts and items follow one another as a decoder reads them, `walk.rs` and `items.rs` say again, and tests compare.
 //!
 //! # Read a page into structs
 //!
@@ -92,16 +92,18 @@ mod error;
 mod feed;
 mod from_cell;
 mod from_row;
+mod items;
 mod newtypes;
 mod reading;
 mod sink;
 mod to_cell;
+mod walk;
 mod whole;
 mod write;
 
 pub use crate::{bind, row};
 pub use bind::{BindFault, BoundValues, Unbound, bind_values};
-pub use cell::{LentCell, LentItems};
+pub use cell::LentCell;
 #[doc(hidden)]
 pub use cells::{NotRead, RowCells};
 pub use error::{Mismatch, RowError};
@@ -109,6 +111,7 @@ pub use from_cell::FromCell;
 pub use from_row::{FromRow, Row};
 #[doc(hidden)]
 pub use from_row::{is_wide, set_field};
+pub use items::LentItems;
 pub use newtypes::{Counter, Date, Decimal, Time, Timestamp, Timeuuid, Uuid, Varint};
 pub use reading::PageHead;
 pub use sink::{CELL_LIMITS, RowSink};

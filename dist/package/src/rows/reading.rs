@@ -169,6 +169,11 @@ impl<T: Row> Reading<T> {
         self.fields.get(column as usize).copied().unwrap_or(NO_FIELD) as usize
     }
 
+    /// Whether a column sets no field.
+    pub(crate) fn is_passed_over(&self, column: u32) -> bool {
+        self.field_of(column) == NO_FIELD as usize
+    }
+
     /// Takes a cell, and answers whether it ends its row.
     #[inline(always)]
     pub(crate) fn take_cell<'a>(&mut self, row: u32, column: u32, cell: LentCell<'a, '_>) -> Result<bool, SinkFault>
@@ -237,7 +242,7 @@ impl<T: Row> Reading<T> {
 
     fn enter(&mut self, row: u32, column: u32, level: u32, kind: Kind, items: u32) -> Result<(), NotHeld> {
         if level == 0 {
-            self.open.begin(row, column, self.field_of(column) == NO_FIELD as usize);
+            self.open.begin(row, column, self.is_passed_over(column));
         }
         self.open.enter(kind, items)
     }

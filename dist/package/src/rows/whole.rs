@@ -6,15 +6,14 @@ use core::fmt;
 use crate::cqlp_build_cells::CellLimits;
 use crate::cqlp_decode::{Decoder, NewError};
 use crate::cqlp_grammar::{Event, SinkFault};
-use crate::cqlp_kind::{Kind, Scalar};
+use crate::cqlp_kind::Scalar;
 use crate::cqlp_message::Spec;
 use crate::cqlp_note::{Address, Header, Limits, Refusal};
 use crate::cqlp_skip::Fed;
-use crate::cqlp_type::TypeTable;
 use crate::cqlp_type_tables::{TableError, table_of_specs};
 use crate::kit_std::alloc::Global;
 use crate::rows::cell::{LentCell, Place, lend};
-use crate::rows::cells::{NotRead, RowCells, WhyNot};
+use crate::rows::cells::{CellReading, Columns, NotRead, RowCells, WhyNot};
 use crate::rows::error::RowError;
 use crate::rows::feed::{TakesCells, feed, for_kinds, implement};
 use crate::rows::from_row::{FromRow, Row, read};
@@ -49,7 +48,7 @@ pub struct PageReader {
 /// The columns of pages that come without metadata.
 struct Given {
     names: Names,
-    kinds: Vec<Kind>,
+    columns: Columns,
 }
 
 impl PageReader {
@@ -74,13 +73,13 @@ impl PageReader {
     /// # Errors
     ///
     /// [`TableError`], also where the types pass the limits of the decoder.
-    pub fn give(&mut self, columns: &[Spec]) -> Result<(), TableError> {
-        let table = table_of_specs(Global, columns)?;
-        let names = Names::of_specs(columns).map_err(|_| TableError::NoMemory)?;
-        let kinds = kinds_of(&table).map_err(|_| TableError::NoMemory)?;
+    pub fn give(&mut self, specs: &[Spec]) -> Result<(), TableError> {
+        let table = table_of_specs(Global, specs)?;
+        let names = Names::of_specs(specs).map_err(|_| TableError::NoMemory)?;
+        let columns = Columns::of_table(&table).map_err(|_| TableError::NoMemory)?;
         self.decoder.restart();
         self.decoder.give(table).map_err(|_| TableError::TooLong)?;
-        self.given = Some(Given { names, kinds });
+        self.given = Some(Given { names, columns });
         Ok(())
     }
 
@@ -111,18 +110,6 @@ impl PageReader {
     }
 }
 
-/// The kinds of the types that stand side by side in a table.
-fn kinds_of(table: &TypeTable) -> Result<Vec<Kind>, RowError> {
-    let mut kinds = Vec::new();
-    kinds.try_reserve_exact(table.roots() as usize).map_err(|_| RowError::NoMemory)?;
-    let mut place = 0;
-    while let Some(node) = table.node(place) {
-        kinds.push(node.kind);
-        place += node.span.max(1);
-    }
-    Ok(kinds)
-}
-
 impl fmt::Debug for PageReader {
     fn fmt(&self, f: &mut fmt::Formatter<'_>) -> fmt::Result {
         f.debug_struct("PageReader").field("limits", &self.limits).finish_non_exhaustive()
@@ -141,16 +128,16 @@ impl AsMut<PageReader> for PageReader {
     }
 }
 
-/// The rows of a page, and an error where one cannot be made, which is the last then. Up to 64 rows are made at a time.
+/// The rows of a page, and an error where one cannot be made, which is the last then. A row is made when it is asked for; of a frame
+/// that is not whole, or whose contents may come in parts, up to 64 are made at a time.
 #[must_use = "rows are made when they are asked for"]
 pub struct PageRows<'a, R, T: Row> {
     reader: R,
     sink: WholeSink<'a, T>,
     /// The bytes that the decoder has not used; or those up to the frame's end, from the next cell on.
     rest: &'a [u8],
-    limits: Limits,
-    /// The kinds of the columns, and how many rows are left, where they are read without the decoder.
-    kinds: Vec<Kind>,
+    /// What the cells are read by, and how many rows are left, where they are read without the decoder.
+    cells: CellReading,
     in_order: bool,
     left: u32,
     /// The index at which the frame ends.
@@ -174,19 +161,9 @@ impl<'a, R: AsMut<PageReader>, T: FromRow<'a>> PageRows<'a, R, T> {
         if let Some(header) = header {
             let _ = feed(decoder, &header, &mut sink);
         }
-        let limits = *asked;
-        let mut rows = PageRows {
-            reader,
-            sink,
-            rest: bytes,
-            limits,
-            kinds: Vec::new(),
-            in_order: false,
-            left: 0,
-            end: 0,
-            ready: Vec::new().into_iter(),
-            error: None,
-        };
+        let cells = CellReading { columns: Columns::default(), limits: *asked, most: limits.events };
+        let mut rows =
+            PageRows { reader, sink, rest: bytes, cells, in_order: false, left: 0, end: 0, ready: Vec::new().into_iter(), error: None };
         if !rows.sink.over {
             rows.read_on();
         }
@@ -200,18 +177,18 @@ impl<'a, R: AsMut<PageReader>, T: FromRow<'a>> PageRows<'a, R, T> {
         }
     }
 
-    /// Takes over from the decoder at the first row, where the frame is whole and its columns are scalars that come whole.
+    /// Takes over from the decoder at the first row, where the frame is whole and its contents come whole.
     fn begin_cells(&mut self) -> Result<(), RowError> {
         let head = self.head();
         let (columns, rows) = (head.columns as usize, head.rows);
         let end = head.header.map_or(u64::MAX, |header| u64::from(header.length) + HEADER as u64 - self.sink.base);
         let left = usize::try_from(end).ok().and_then(|end| self.sink.page.get(self.used()..end));
         // Each cell of a row takes four bytes at least.
-        let Some(left) = left.filter(|left| !self.limits.parts && columns <= left.len() / 4) else { return Ok(()) };
-        let kinds = self.find_kinds(columns)?;
-        if kinds.len() == columns && kinds.iter().all(|kind| kind.is_scalar()) {
+        let Some(left) = left.filter(|left| !self.cells.limits.parts && columns <= left.len() / 4) else { return Ok(()) };
+        let found = self.find_columns(columns)?;
+        if found.kinds.len() == columns {
             self.end = self.used() + left.len();
-            (self.kinds, self.rest) = (kinds, left);
+            (self.cells.columns, self.rest) = (found, left);
             self.in_order = self.sink.reading.is_in_order();
             self.left = if columns == 0 { 0 } else { rows };
             self.sink.over = true;
@@ -225,22 +202,15 @@ impl<'a, R: AsMut<PageReader>, T: FromRow<'a>> PageRows<'a, R, T> {
         self.sink.page.len() - self.rest.len()
     }
 
-    /// The kinds of the columns.
-    fn find_kinds(&mut self, columns: usize) -> Result<Vec<Kind>, RowError> {
-        let is_bare = self.sink.reading.is_bare() || !self.limits.types;
+    /// The columns, this many.
+    fn find_columns(&mut self, count: usize) -> Result<Columns, RowError> {
+        let is_bare = self.sink.reading.is_bare() || !self.cells.limits.types;
         let PageReader { decoder, given, .. } = self.reader.as_mut();
-        if !is_bare {
-            return kinds_of(decoder.table());
+        match given {
+            _ if !is_bare => Columns::of_table(decoder.table()),
+            Some(given) if given.columns.kinds.len() == count => given.columns.try_clone(),
+            _ => Columns::untyped(count),
         }
-        let given = given.as_ref().map_or(&[][..], |given| &given.kinds);
-        let mut kinds = Vec::new();
-        kinds.try_reserve_exact(columns).map_err(|_| RowError::NoMemory)?;
-        if given.len() == columns {
-            kinds.extend_from_slice(given);
-        } else {
-            kinds.resize(columns, Kind::Raw);
-        }
-        Ok(kinds)
     }
 
     /// The next row of those that are left.
@@ -249,11 +219,11 @@ impl<'a, R: AsMut<PageReader>, T: FromRow<'a>> PageRows<'a, R, T> {
         if !self.in_order {
             return self.next_by_columns();
         }
-        let mut cells = RowCells { rest: self.rest, kinds: &self.kinds, limits: &self.limits };
+        let mut cells = RowCells::new(self.rest, &self.cells);
         match read::<T>(&mut cells) {
             Ok(Some(row)) => {
                 self.rest = cells.rest;
-                if self.kinds.len() > T::WIDTH {
+                if self.cells.columns.kinds.len() > T::WIDTH {
                     self.pass_over()?;
                 }
                 self.end_row();
@@ -267,13 +237,15 @@ impl<'a, R: AsMut<PageReader>, T: FromRow<'a>> PageRows<'a, R, T> {
     #[inline(always)]
     fn end_row(&mut self) {
         self.left -= 1;
-        self.sink.reading.head.ended |= self.left == 0;
+        if self.left == 0 {
+            self.sink.reading.head.ended = true;
+        }
     }
 
     /// Passes over the cells that are no fields'.
     #[inline(never)]
     fn pass_over(&mut self) -> Result<(), RowError> {
-        let mut cells = RowCells { rest: self.rest, kinds: &self.kinds, limits: &self.limits };
+        let mut cells = RowCells::new(self.rest, &self.cells);
         match cells.pass_over(T::WIDTH) {
             Ok(()) => {
                 self.rest = cells.rest;
@@ -286,20 +258,23 @@ impl<'a, R: AsMut<PageReader>, T: FromRow<'a>> PageRows<'a, R, T> {
     /// The next row, whose cells are set one by one.
     #[inline(never)]
     fn next_by_columns(&mut self) -> Result<T, RowError> {
-        let row = self.row();
-        let mut cells = RowCells { rest: self.rest, kinds: &self.kinds, limits: &self.limits };
-        for column in 0..self.kinds.len() {
-            match cells.next_cell(column) {
-                Ok(cell) => match self.sink.reading.take_cell(row, column as u32, cell) {
-                    Ok(_) => {}
-                    Err(SinkFault) => return Err(self.stop()),
-                },
+        let (row, mut rest) = (self.row(), self.rest);
+        for column in 0..self.cells.columns.kinds.len() {
+            let reading = &mut self.sink.reading;
+            let taken = if reading.is_passed_over(column as u32) {
+                self.cells.pass(rest, column).map(|later| (Ok(false), later))
+            } else {
+                self.cells.lend(rest, column, |cell| reading.take_cell(row, column as u32, cell))
+            };
+            match taken {
+                Ok((Ok(_), later)) => rest = later,
+                Ok((Err(SinkFault), _)) => return Err(self.stop()),
                 Err(why) => return Err(self.fail(why)),
             }
         }
         match self.sink.reading.end_row() {
             Ok(row) => {
-                self.rest = cells.rest;
+                self.rest = rest;
                 self.end_row();
                 Ok(row)
             }
@@ -325,6 +300,10 @@ impl<'a, R: AsMut<PageReader>, T: FromRow<'a>> PageRows<'a, R, T> {
             WhyNot::Mismatch(why) => {
                 let SinkFault = self.sink.reading.give_up_cell(row, column as u32, why);
                 self.stop()
+            }
+            WhyNot::TooLarge => {
+                self.left = 0;
+                RowError::TooLarge { row, column: column as u32 }
             }
         }
     }

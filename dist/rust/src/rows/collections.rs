@@ -8,9 +8,10 @@ use core::hash::{BuildHasher, Hash};
 use std::collections::{HashMap, HashSet};
 
 use crate::cqlp_kind::Kind;
-use crate::rows::cell::{LentCell, LentItems};
+use crate::rows::cell::LentCell;
 use crate::rows::error::Mismatch;
 use crate::rows::from_cell::FromCell;
+use crate::rows::items::LentItems;
 
 /// The items of a list or a set; None where the value has no bytes.
 #[inline]
@@ -32,13 +33,6 @@ fn pairs_of<'a, 's>(cell: LentCell<'a, 's>, wanted: &'static str) -> Result<Opti
     }
 }
 
-/// The next key and its value.
-#[inline]
-fn next_pair<'a, K: FromCell<'a>, V: FromCell<'a>>(items: &mut LentItems<'a, '_>) -> Option<Result<(K, V), Mismatch>> {
-    let (key, value) = (items.next()?, items.next()?);
-    Some(K::from_cell(key).and_then(|key| Ok((key, V::from_cell(value)?))))
-}
-
 /// The items of a list or a set, in their order.
 impl<'a, T: FromCell<'a>> FromCell<'a> for Vec<T> {
     #[inline]
@@ -48,9 +42,7 @@ impl<'a, T: FromCell<'a>> FromCell<'a> for Vec<T> {
             return Ok(values);
         };
         values.try_reserve_exact(items.room()).map_err(|_| Mismatch::NoMemory)?;
-        for item in items {
-            values.push(T::from_cell(item)?);
-        }
+        items.read_each(|value| values.push(value))?;
         Ok(values)
     }
 }
@@ -58,17 +50,22 @@ impl<'a, T: FromCell<'a>> FromCell<'a> for Vec<T> {
 /// The items of a list or a set, each once.
 impl<'a, T: FromCell<'a> + Ord> FromCell<'a> for BTreeSet<T> {
     fn from_cell(cell: LentCell<'a, '_>) -> Result<Self, Mismatch> {
-        items_of(cell, "BTreeSet<_>")?.into_iter().flatten().map(T::from_cell).collect()
+        let mut set = BTreeSet::new();
+        if let Some(items) = items_of(cell, "BTreeSet<_>")? {
+            items.read_each(|value| _ = set.insert(value))?;
+        }
+        Ok(set)
     }
 }
 
 /// The pairs of a map. Where a key comes again, the last value counts.
 impl<'a, K: FromCell<'a> + Ord, V: FromCell<'a>> FromCell<'a> for BTreeMap<K, V> {
     fn from_cell(cell: LentCell<'a, '_>) -> Result<Self, Mismatch> {
-        let Some(mut items) = pairs_of(cell, "BTreeMap<_, _>")? else {
-            return Ok(BTreeMap::new());
-        };
-        core::iter::from_fn(|| next_pair(&mut items)).collect()
+        let mut map = BTreeMap::new();
+        if let Some(items) = pairs_of(cell, "BTreeMap<_, _>")? {
+            items.read_pairs(|key, value| _ = map.insert(key, value))?;
+        }
+        Ok(map)
     }
 }
 
@@ -81,9 +78,7 @@ impl<'a, T: FromCell<'a> + Eq + Hash, S: BuildHasher + Default> FromCell<'a> for
             return Ok(set);
         };
         set.try_reserve(items.room()).map_err(|_| Mismatch::NoMemory)?;
-        for item in items {
-            set.insert(T::from_cell(item)?);
-        }
+        items.read_each(|value| _ = set.insert(value))?;
         Ok(set)
     }
 }
@@ -93,14 +88,11 @@ impl<'a, T: FromCell<'a> + Eq + Hash, S: BuildHasher + Default> FromCell<'a> for
 impl<'a, K: FromCell<'a> + Eq + Hash, V: FromCell<'a>, S: BuildHasher + Default> FromCell<'a> for HashMap<K, V, S> {
     fn from_cell(cell: LentCell<'a, '_>) -> Result<Self, Mismatch> {
         let mut map = HashMap::with_hasher(S::default());
-        let Some(mut items) = pairs_of(cell, "HashMap<_, _>")? else {
+        let Some(items) = pairs_of(cell, "HashMap<_, _>")? else {
             return Ok(map);
         };
         map.try_reserve(items.room()).map_err(|_| Mismatch::NoMemory)?;
-        while let Some(pair) = next_pair(&mut items) {
-            let (key, value) = pair?;
-            map.insert(key, value);
-        }
+        items.read_pairs(|key, value| _ = map.insert(key, value))?;
         Ok(map)
     }
 }

@@ -7,8 +7,9 @@ use core::net::{IpAddr, Ipv4Addr, Ipv6Addr};
 use crate::cqlp_kind::{Kind, Scalar};
 use crate::cqlp_note::Address;
 use crate::cqlp_value::{Atom, Value};
-use crate::rows::cell::{LentCell, LentItems};
+use crate::rows::cell::LentCell;
 use crate::rows::error::Mismatch;
+use crate::rows::items::LentItems;
 
 /// A type that is read from a cell, or from an item of one. Section 6 of `native_protocol_v4.spec`.
 ///
