@@ -41,6 +41,7 @@ impl<'a> Scalar<'a> {
     /// `BadSize` where no scalar of the kind has this many bytes, and where there are none; else `BadUtf8` for a varchar that is
     /// not UTF-8, and `BadScalar` for an ascii with a byte above 7F, a time past the end of a day or a timeuuid that is not of
     /// version 1.
+    #[inline]
     #[must_use]
     pub fn from_bytes(kind: Kind, bytes: &'a [u8]) -> Option<Result<Scalar<'a>, Reason>> {
         if !kind.is_scalar() {

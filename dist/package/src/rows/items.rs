@@ -3,10 +3,10 @@
 use core::cell::Cell;
 
 use crate::cqlp_kind::{Kind, Node};
-use crate::cqlp_note::{Limits, Reason};
-use crate::cqlp_read_value::{CellContent, PageCell, read_cell};
+use crate::cqlp_note::Limits;
+use crate::cqlp_read_value::{CellContent, read_cell};
 use crate::rows::cell::{LentCell, Step, content};
-use crate::rows::cells::{NotRead, WhyNot, is_known, read_known};
+use crate::rows::cells::{NotRead, WhyNot, front, is_known, read_known};
 use crate::rows::error::Mismatch;
 use crate::rows::from_cell::FromCell;
 
@@ -175,12 +175,7 @@ impl<'a> LentItems<'a, '_> {
                 };
                 lying.read_scalars(1, read)
             }
-            _ => {
-                for item in self {
-                    hand(T::from_cell(item)?);
-                }
-                Ok(())
-            }
+            _ => read_items(self, &mut hand),
         }
     }
 
@@ -191,7 +186,7 @@ impl<'a> LentItems<'a, '_> {
     ///
     /// Why an item has no such value. The pairs before it were handed.
     #[inline]
-    pub fn read_pairs<K: FromCell<'a>, V: FromCell<'a>>(mut self, mut hand: impl FnMut(K, V)) -> Result<(), Mismatch> {
+    pub fn read_pairs<K: FromCell<'a>, V: FromCell<'a>>(self, mut hand: impl FnMut(K, V)) -> Result<(), Mismatch> {
         match &self.source {
             Source::Lying(lying) if self.kind == Kind::Map && lying.knows::<K, V>() => {
                 let read = |bytes| {
@@ -202,20 +197,36 @@ impl<'a> LentItems<'a, '_> {
                 };
                 lying.read_scalars(2, read)
             }
-            _ => {
-                while let (Some(key), Some(value)) = (self.next(), self.next()) {
-                    hand(K::from_cell(key)?, V::from_cell(value)?);
-                }
-                Ok(())
-            }
+            _ => read_items_by_two(self, &mut hand),
         }
     }
+}
+
+/// Hands the value of each item, one by one.
+#[inline(never)]
+fn read_items<'a, T: FromCell<'a>>(items: LentItems<'a, '_>, hand: &mut impl FnMut(T)) -> Result<(), Mismatch> {
+    for item in items {
+        hand(T::from_cell(item)?);
+    }
+    Ok(())
+}
+
+/// Hands the values of two items after one another.
+#[inline(never)]
+fn read_items_by_two<'a, K: FromCell<'a>, V: FromCell<'a>>(
+    mut items: LentItems<'a, '_>,
+    hand: &mut impl FnMut(K, V),
+) -> Result<(), Mismatch> {
+    while let (Some(key), Some(value)) = (items.next(), items.next()) {
+        hand(K::from_cell(key)?, V::from_cell(value)?);
+    }
+    Ok(())
 }
 
 impl<'a, 's> Iterator for LentItems<'a, 's> {
     type Item = LentCell<'a, 's>;
 
-    #[inline]
+    #[inline(always)]
     fn next(&mut self) -> Option<LentCell<'a, 's>> {
         match &mut self.source {
             Source::Held { steps, bytes } => next_held(steps, bytes),
@@ -225,7 +236,7 @@ impl<'a, 's> Iterator for LentItems<'a, 's> {
 }
 
 /// The next of the items in these steps.
-#[inline]
+#[inline(never)]
 fn next_held<'a, 's>(steps: &mut &'s [Step], bytes: &'a [u8]) -> Option<LentCell<'a, 's>> {
     let (&step, mut rest) = steps.split_first()?;
     let cell = match step {
@@ -244,32 +255,63 @@ fn next_held<'a, 's>(steps: &mut &'s [Step], bytes: &'a [u8]) -> Option<LentCell
 }
 
 impl<'a, 's> Lying<'a, 's> {
-    /// The next item; None also where a decoder refuses it.
-    #[inline]
+    /// The next item; None also where a decoder refuses it. The common ones are read in the caller.
+    #[inline(always)]
     fn next_item(&mut self) -> Option<LentCell<'a, 's>> {
         if self.left == 0 {
             return None;
         }
-        let (from, place) = (address_of(self.rest), self.next);
-        let Ok(item) = read_item(self.of.limits, self.of.kind(place), self.rest) else {
+        match self.of.kind(self.next) {
+            Kind::Int => {
+                if let Some((cell, rest)) = front(self.of.limits, Kind::Int, self.rest) {
+                    self.go_on(rest);
+                    return Some(cell);
+                }
+            }
+            Kind::Varchar => {
+                if let Some((cell, rest)) = front(self.of.limits, Kind::Varchar, self.rest) {
+                    self.go_on(rest);
+                    return Some(cell);
+                }
+            }
+            _ => {}
+        }
+        self.next_other()
+    }
+
+    /// The next item, which there is.
+    #[inline(never)]
+    fn next_other(&mut self) -> Option<LentCell<'a, 's>> {
+        let Ok(item) = read_cell(self.of.limits, self.of.kind(self.next), self.rest) else {
             self.left = 0;
             return None;
         };
-        self.rest = &self.rest[item.used..];
-        self.go_on();
+        let (from, place, rest) = (address_of(self.rest), self.next, &self.rest[item.used..]);
         let cell = match item.content {
             CellContent::Null => LentCell::Null,
             CellContent::Empty => LentCell::Empty,
             CellContent::Scalar(scalar) => LentCell::Scalar(scalar),
-            CellContent::Items(content) => return self.enter(from, place, content),
+            CellContent::Items(content) => {
+                self.advance(rest);
+                return self.enter(from, place, content);
+            }
         };
-        self.of.pass(from, self.rest, self.left);
+        self.go_on(rest);
         Some(cell)
+    }
+
+    /// Goes on after a scalar.
+    #[inline(always)]
+    fn go_on(&mut self, rest: &'a [u8]) {
+        let from = address_of(self.rest);
+        self.advance(rest);
+        self.of.pass(from, rest, self.left);
     }
 
     /// Goes on after an item.
     #[inline(always)]
-    fn go_on(&mut self) {
+    fn advance(&mut self, rest: &'a [u8]) {
+        self.rest = rest;
         self.left -= 1;
         if self.other == FIELDS {
             self.next = self.of.after(self.next);
@@ -281,7 +323,6 @@ impl<'a, 's> Lying<'a, 's> {
     }
 
     /// The item of the type at this place, which has items, began at this address, and was passed.
-    #[inline(never)]
     fn enter(&mut self, from: usize, place: u32, content: &'a [u8]) -> Option<LentCell<'a, 's>> {
         let Some(items) = LentItems::lying(self.of, place, content) else {
             self.left = 0;
@@ -315,19 +356,4 @@ impl<'a, 's> Lying<'a, 's> {
         self.of.pass(address_of(self.rest), rest, 0);
         Ok(())
     }
-}
-
-/// The item of this kind at the front of these bytes, the common kinds apart.
-#[inline(always)]
-fn read_item<'a>(limits: &Limits, kind: Kind, bytes: &'a [u8]) -> Result<PageCell<'a>, Reason> {
-    match kind {
-        Kind::Int => read_cell(limits, Kind::Int, bytes),
-        Kind::Varchar => read_cell(limits, Kind::Varchar, bytes),
-        kind => read_other_item(limits, kind, bytes),
-    }
-}
-
-#[inline(never)]
-fn read_other_item<'a>(limits: &Limits, kind: Kind, bytes: &'a [u8]) -> Result<PageCell<'a>, Reason> {
-    read_cell(limits, kind, bytes)
 }

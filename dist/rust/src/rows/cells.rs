@@ -3,7 +3,7 @@
 use alloc::vec::Vec;
 use core::cell::Cell;
 
-use crate::cqlp_kind::{Kind, Node};
+use crate::cqlp_kind::{Kind, Node, Scalar};
 use crate::cqlp_note::{Limits, Reason};
 use crate::cqlp_read_value::{CellContent, read_cell};
 use crate::cqlp_type::TypeTable;
@@ -140,8 +140,13 @@ impl<'a, 's> RowCells<'a, 's> {
                 self.rest = rest;
                 return Ok(value);
             }
+            if let (Some(null), Some(rest)) = (T::null(), after_null(self.rest)) {
+                self.rest = rest;
+                return Ok(null);
+            }
         }
-        let (value, rest) = self.reading.read(self.rest, column)?;
+        let (value, rest) =
+            if const { T::KIND.is_some() } { self.reading.read_rare(self.rest, column)? } else { self.reading.read(self.rest, column)? };
         self.rest = rest;
         Ok(value)
     }
@@ -181,24 +186,34 @@ fn size_of(kind: Kind) -> Option<u32> {
     }
 }
 
-/// The scalar or the null at the front of these bytes, and those after it. None for the rest: no bytes, which are rare, and what is refused.
+/// The bytes after the null at the front of these bytes.
 #[inline(always)]
-fn front<'a>(limits: &Limits, kind: Kind, bytes: &'a [u8]) -> Option<(LentCell<'a, 'static>, &'a [u8])> {
-    let len = bytes.first_chunk::<4>()?;
-    match size_of(kind) {
-        // One comparison says all of a length that is known before.
-        Some(size) if *len == size.to_be_bytes() => {}
-        _ if len[0] >= 0x80 => return Some((LentCell::Null, &bytes[4..])),
-        Some(_) => return None,
-        None => {}
+fn after_null(bytes: &[u8]) -> Option<&[u8]> {
+    match bytes {
+        [0x80..=0xff, _, _, _, rest @ ..] => Some(rest),
+        _ => None,
     }
-    match read_cell(limits, kind, bytes) {
-        Ok(cell) => match cell.content {
-            CellContent::Scalar(scalar) => Some((LentCell::Scalar(scalar), &bytes[cell.used..])),
-            CellContent::Empty => Some((LentCell::Empty, &bytes[cell.used..])),
-            CellContent::Null | CellContent::Items(_) => None,
-        },
-        Err(_) => None,
+}
+
+/// The scalar at the front of these bytes, and those after it, or no bytes where the kind is of texts or the like. None for the rest: null,
+/// and what is refused.
+#[inline(always)]
+pub(crate) fn front<'a>(limits: &Limits, kind: Kind, bytes: &'a [u8]) -> Option<(LentCell<'a, 'static>, &'a [u8])> {
+    if let Some(size) = size_of(kind) {
+        // One comparison says all of a length that is known before. It is not past the limits, which allow 32 bytes.
+        let (cell, rest) = bytes.split_at_checked(4 + size as usize)?;
+        let (len, content) = cell.split_first_chunk::<4>()?;
+        if *len != size.to_be_bytes() {
+            return None;
+        }
+        let scalar = Scalar::from_bytes(kind, content)?.ok()?;
+        return Some((LentCell::Scalar(scalar), rest));
+    }
+    let cell = read_cell(limits, kind, bytes).ok()?;
+    match cell.content {
+        CellContent::Scalar(scalar) => Some((LentCell::Scalar(scalar), &bytes[cell.used..])),
+        CellContent::Empty => Some((LentCell::Empty, &bytes[cell.used..])),
+        CellContent::Null | CellContent::Items(_) => None,
     }
 }
 
@@ -240,6 +255,14 @@ impl CellReading {
         Ok((value.map_err(|why| mismatch(column, why))?, rest))
     }
 
+    /// The same of a type that is read the fastest from another kind, or of what is not read the fastest.
+    #[cold]
+    #[inline(never)]
+    fn read_rare<'a, T: FromCell<'a>>(&self, bytes: &'a [u8], column: usize) -> Result<(T, &'a [u8]), NotRead> {
+        let (value, rest) = self.lend(bytes, column, T::from_cell)?;
+        Ok((value.map_err(|why| mismatch(column, why))?, rest))
+    }
+
     /// Lends the cell of this column at the front of these bytes to a closure, and answers what that does and the bytes after the cell. A
     /// refusal of any byte of the cell comes before the answer.
     #[inline]
@@ -250,7 +273,10 @@ impl CellReading {
         take: impl FnOnce(LentCell<'a, '_>) -> R,
     ) -> Result<(R, &'a [u8]), NotRead> {
         let refused = |why| NotRead { column, left: bytes.len(), why: WhyNot::Refused(why) };
-        let cell = read_cell(&self.limits, self.columns.kinds[column], bytes).map_err(refused)?;
+        let kind = self.columns.kinds[column];
+        // What has items is read as a list: the compiler leaves the scalars out then.
+        let read = if kind.is_scalar() { read_cell(&self.limits, kind, bytes) } else { read_cell(&self.limits, Kind::List, bytes) };
+        let cell = read.map_err(refused)?;
         let rest = &bytes[cell.used..];
         let CellContent::Items(content) = cell.content else { return Ok((take(lend(cell.content)), rest)) };
         // Each value takes four bytes at least, so few cells can have too many.

@@ -44,6 +44,14 @@ pub trait FromCell<'a>: Sized {
     ///
     /// Why the cell has no such value.
     fn from_cell(cell: LentCell<'a, '_>) -> Result<Self, Mismatch>;
+
+    /// What `from_cell` makes of a null, where that is known without a look at more.
+    #[doc(hidden)]
+    #[inline(always)]
+    #[must_use]
+    fn null() -> Option<Self> {
+        None
+    }
 }
 
 /// Implements `FromCell` for types by the scalars that each reads.
@@ -202,6 +210,11 @@ impl<'a, T: FromCell<'a>> FromCell<'a> for Option<T> {
             LentCell::Null => Ok(None),
             some => T::from_cell(some).map(Some),
         }
+    }
+
+    #[inline(always)]
+    fn null() -> Option<Self> {
+        Some(None)
     }
 }
 
