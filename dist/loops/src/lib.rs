@@ -1,0 +1,1 @@
+//! Nothing: the examples are all there is.
