@@ -1,5 +1,5 @@
-//! Each worked stream says its events in every way of reading it: in three pieces cut at each pair of places, up to each of its bytes, with
-//! a read that fails and a second run after it, in a run of each number of turns and a second one, and with a writer and a sink that have
+//! Each worked stream says its events in every way of reading it: in three pieces cut at each pair of places, by reads too, up to each of its bytes,
+//! with a read that fails and a second run after it, in a run of each number of turns and a second one, and with a writer and a sink that have
 //! room for each number of bytes and events, and fed in pieces, to a sink that fails at each event too; the text of its pages too.
 #![forbid(unsafe_code)]
 
@@ -12,21 +12,25 @@ use cqlp::{Decoder, Event, Fed, Finish, Global, IoFault, OfStd, Outcome, Sink, S
 /// How many bytes a read gives where a run stops between two reads.
 const PIECE: usize = 7;
 
-/// Gives pieces of this many bytes, and fails once after so many reads.
+/// Gives pieces of these sizes, and then of the last size, and fails once after so many reads.
 struct Pieces<'a> {
     rest: &'a [u8],
-    size: usize,
+    sizes: [usize; 3],
     before: usize,
     has_failed: bool,
 }
 
 impl<'a> Pieces<'a> {
     fn failing(bytes: &'a [u8], size: usize, before: usize) -> Self {
-        Pieces { rest: bytes, size, before, has_failed: false }
+        Pieces { before, ..Pieces::new(bytes, size) }
     }
 
     fn new(bytes: &'a [u8], size: usize) -> Self {
-        Pieces::failing(bytes, size, usize::MAX)
+        Pieces::of_sizes(bytes, [size; 3])
+    }
+
+    fn of_sizes(bytes: &'a [u8], sizes: [usize; 3]) -> Self {
+        Pieces { rest: bytes, sizes, before: usize::MAX, has_failed: false }
     }
 }
 
@@ -37,11 +41,11 @@ impl Source for Pieces<'_> {
             return Err(IoFault);
         }
         self.before = self.before.saturating_sub(1);
-        let count = self.size.min(self.rest.len()).min(buffer.len());
-        let (piece, rest) = self.rest.split_at(count);
-        buffer[..count].copy_from_slice(piece);
-        self.rest = rest;
-        Ok(count)
+        let [first, second, last] = self.sizes;
+        let (piece, rest) = self.rest.split_at(first.min(self.rest.len()).min(buffer.len()));
+        buffer[..piece.len()].copy_from_slice(piece);
+        (self.rest, self.sizes) = (rest, [second, last, last]);
+        Ok(piece.len())
     }
 }
 
@@ -122,6 +126,30 @@ fn in_three_pieces() {
             for first in 1..second {
                 let (one, two) = front.split_at(first);
                 assert_eq!(said(stream.limits, [one, two, third]), stream.said, "{} cut at {first} and {second}", stream.name);
+            }
+        }
+    }
+}
+
+#[test]
+fn read_whole() {
+    for (stream, (text, outcome)) in all() {
+        let Outcome::Finished(finish) = outcome else { panic!("{} ends otherwise", stream.name) };
+        let mut said = OfStd::new(text);
+        ending_line(Ending::Finished(finish), &mut said).unwrap();
+        assert_eq!(String::from_utf8(said.into_inner()).unwrap(), stream.said, "{}", stream.name);
+    }
+}
+
+/// Those with a name of their own.
+#[test]
+fn read_in_three_pieces() {
+    for (stream, whole) in all().iter().filter(|(stream, _)| !stream.name.starts_with("shown_")) {
+        for first in 1..stream.bytes.len() {
+            for second in 1..=stream.bytes.len() - first {
+                let mut source = Pieces::of_sizes(&stream.bytes, [first, second, usize::MAX]);
+                let (outcome, out) = render_events(&mut decoder(stream), &mut source, Narrow::new(usize::MAX), u64::MAX);
+                assert!((out.text, outcome) == *whole, "{} in {first} and {second} bytes", stream.name);
             }
         }
     }

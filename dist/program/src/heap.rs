@@ -1,5 +1,5 @@
 //! The memory of a thread of tests: how many bytes of it are held, the most that were, how often more is asked for, and which of these requests
-//! are refused.
+//! are refused, by their numbers or for want of room.
 use std::alloc::{GlobalAlloc, Layout, System};
 use std::cell::Cell;
 use std::ptr::null_mut;
@@ -11,13 +11,15 @@ struct Counts {
     requests: u64,
     /// The first and the last request that is refused.
     refused: (u64, u64),
+    /// How many bytes may be held.
+    room: isize,
 }
 
 /// No request is refused.
 const NONE: (u64, u64) = (1, 0);
 
 thread_local! {
-    static COUNTS: Cell<Counts> = const { Cell::new(Counts { live: 0, most: 0, requests: 0, refused: NONE }) };
+    static COUNTS: Cell<Counts> = const { Cell::new(Counts { live: 0, most: 0, requests: 0, refused: NONE, room: isize::MAX }) };
 }
 
 struct Counting;
@@ -28,7 +30,7 @@ unsafe impl GlobalAlloc for Counting {
         let before = COUNTS.get();
         let (requests, live) = (before.requests + 1, before.live + layout.size() as isize);
         let (first, last) = before.refused;
-        if first <= requests && requests <= last {
+        if first <= requests && requests <= last || before.room < live {
             COUNTS.set(Counts { requests, ..before });
             return null_mut();
         }
@@ -62,4 +64,13 @@ pub fn refusing<T>(first: u64, last: u64, call: impl FnOnce() -> T) -> (T, u64) 
     let after = COUNTS.get();
     COUNTS.set(Counts { refused: NONE, ..after });
     (answer, after.requests)
+}
+
+/// What a call answers that may hold at most this many bytes more than before: each request for more is refused.
+pub fn within<T>(bytes: usize, call: impl FnOnce() -> T) -> T {
+    let before = COUNTS.get();
+    COUNTS.set(Counts { room: before.live + bytes as isize, ..before });
+    let answer = call();
+    COUNTS.set(Counts { room: isize::MAX, ..COUNTS.get() });
+    answer
 }

@@ -14,6 +14,10 @@ mod kit_std;
 #[cfg(test)]
 mod calls;
 #[cfg(test)]
+mod commands;
+#[cfg(test)]
+mod digits;
+#[cfg(test)]
 mod heap;
 #[cfg(test)]
 mod mutated;

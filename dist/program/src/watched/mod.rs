@@ -11,6 +11,7 @@ mod summaries;
 use crate::cqlp_capture::{CaptureEvent, CaptureLimits, CaptureReader, CaptureStep};
 use crate::cqlp_tcp_connections::ConnectionLimits;
 use crate::cqlp_tcp_segment::{LinkType, NoSegment, Segment, read_segment};
+use crate::digits::bytes_of;
 use crate::kit_std::alloc::Global;
 use std::fs::read;
 
@@ -81,10 +82,6 @@ fn file_of(words: &str) -> (&str, Vec<u8>) {
         None => (words, read(format!("{}/data/{words}", folder())).unwrap()),
         Some((name, digits)) => (name.trim_end(), bytes_of(digits)),
     }
-}
-
-fn bytes_of(digits: &str) -> Vec<u8> {
-    digits.as_bytes().chunks(2).map(|pair| u8::from_str_radix(std::str::from_utf8(pair).unwrap(), 16).unwrap()).collect()
 }
 
 /// A packet of a capture.
