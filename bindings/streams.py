@@ -1,7 +1,7 @@
 #!/usr/bin/env python3
 """Writes bindings/streams.txt, which the tests of all wrappers read, to standard output: bindings/streams.py > bindings/streams.txt
 
-Its streams, and what is said of them, are the data of the crate cqlp_test_commands, which were written by hand or taken from the definition. Those
+Its streams, and what is said of them, are the command lines of programs/lines, which were written by hand or taken from the definition. Those
 below a line `## NAME` have that name, and come first. Of each stream there are: a line `stream NAME` with the limits text, cell, entries, depth and the switches types and
 parts; a line `bytes` with the stream in hexadecimal digits; the lines of its events, as `cqlp show` writes them; and a line `end` with the
 verdict. Lines of JSON are left out.
@@ -9,7 +9,7 @@ verdict. Lines of JSON are left out.
 import pathlib
 import re
 
-CRATES = pathlib.Path(__file__).resolve().parent.parent / "crates"
+DATA = pathlib.Path(__file__).resolve().parent.parent / "programs/data"
 
 
 def bytes_of(digits):
@@ -56,13 +56,12 @@ def write(name, bounds, digits, lines, verdict):
 
 def commands():
     """Those command lines that show a stream from standard input, by a reading that is not lenient, none of whose frames is passed over."""
-    crate = CRATES / "cqlp_test_commands"
     said = {}
-    for name, lines in stanzas(crate / "stdout"):
+    for name, lines in stanzas(DATA / "said.txt"):
         said.setdefault(name, []).append(lines)
     shown = [
         (name, words, digits)
-        for name, words, digits in inputs(crate / "stdin")
+        for name, words, digits in inputs(DATA / "lines.txt")
         if re.fullmatch(r"show( --.*)? -", words) and "--json" not in words and "--lenient" not in words
     ]
     streams = []

@@ -1,5 +1,4 @@
 //! What a program has of the kit and a library has not: a runtime, files, sockets, words; and what the kit's clap has of std.
-pub mod digits;
 pub mod env;
 pub mod fs;
 pub mod items;
