@@ -145,8 +145,28 @@ impl<'a, 's> RowCells<'a, 's> {
                 return Ok(null);
             }
         }
-        let (value, rest) =
-            if const { T::KIND.is_some() } { self.reading.read_rare(self.rest, column)? } else { self.reading.read(self.rest, column)? };
+        if const { T::KIND.is_none() } {
+            let bytes = self.rest;
+            if let Some((place, content, rest)) = self.reading.few_items(bytes, column) {
+                let checked = self.reading.begin(bytes);
+                if let Some(items) = LentItems::lying(&checked, place, content) {
+                    items.pass_front(&checked, address_of(bytes));
+                    return match T::from_cell(LentCell::Items(items)) {
+                        Ok(value) if checked.up_to.get() == address_of(rest) => {
+                            self.rest = rest;
+                            Ok(value)
+                        }
+                        Ok(value) => {
+                            self.reading.check(bytes, column, content, u32::MAX)?;
+                            self.rest = rest;
+                            Ok(value)
+                        }
+                        Err(why) => Err(self.reading.mismatch_in(bytes, column, content, why)),
+                    };
+                }
+            }
+        }
+        let (value, rest) = self.reading.read_rare(self.rest, column)?;
         self.rest = rest;
         Ok(value)
     }
@@ -248,14 +268,37 @@ fn lend(content: CellContent<'_>) -> LentCell<'_, 'static> {
 }
 
 impl CellReading {
-    /// The value of the cell of this column at the front of these bytes, and the bytes after it.
-    #[inline(never)]
-    fn read<'a, T: FromCell<'a>>(&self, bytes: &'a [u8], column: usize) -> Result<(T, &'a [u8]), NotRead> {
-        let (value, rest) = self.lend(bytes, column, T::from_cell)?;
-        Ok((value.map_err(|why| mismatch(column, why))?, rest))
+    /// The content of the cell of this column at the front of these bytes, the place of its type, and the bytes after it. None of a cell
+    /// without items, of one that is refused, and of one that may have more values than are allowed.
+    #[inline(always)]
+    fn few_items<'a>(&self, bytes: &'a [u8], column: usize) -> Option<(u32, &'a [u8], &'a [u8])> {
+        if self.columns.kinds[column].is_scalar() {
+            return None;
+        }
+        let (len, after) = bytes.split_first_chunk()?;
+        let len = u32::from_be_bytes(*len);
+        // Each value takes four bytes at least, so few cells can have too many. No content is as long as a negative length says.
+        if len == 0 || len / 4 >= self.most {
+            return None;
+        }
+        let (content, rest) = after.split_at_checked(len as usize)?;
+        (len <= i32::MAX as u32).then_some((*self.columns.places.get(column)?, content, rest))
     }
 
-    /// The same of a type that is read the fastest from another kind, or of what is not read the fastest.
+    /// The check of a cell at the front of these bytes, of which nothing is read.
+    #[inline(always)]
+    fn begin(&self, bytes: &[u8]) -> Checked<'_> {
+        Checked { limits: &self.limits, types: &self.columns.types, up_to: Cell::new(address_of(bytes)) }
+    }
+
+    /// Why a cell with this content has no value, unless a decoder refuses it.
+    #[cold]
+    #[inline(never)]
+    fn mismatch_in(&self, bytes: &[u8], column: usize, content: &[u8], why: Mismatch) -> NotRead {
+        self.check(bytes, column, content, u32::MAX).err().unwrap_or_else(|| mismatch(column, why))
+    }
+
+    /// The value of the cell of this column at the front of these bytes, and the bytes after it.
     #[cold]
     #[inline(never)]
     fn read_rare<'a, T: FromCell<'a>>(&self, bytes: &'a [u8], column: usize) -> Result<(T, &'a [u8]), NotRead> {
@@ -283,10 +326,10 @@ impl CellReading {
         if content.len() / 4 >= self.most as usize {
             self.check(bytes, column, content, self.most)?;
         }
-        let checked = Checked { limits: &self.limits, types: &self.columns.types, up_to: Cell::new(address_of(bytes)) };
+        let checked = self.begin(bytes);
         match LentItems::lying(&checked, self.columns.places[column], content) {
             Some(items) => {
-                items.pass_front(address_of(bytes));
+                items.pass_front(&checked, address_of(bytes));
                 let answer = take(LentCell::Items(items));
                 if checked.up_to.get() != address_of(rest) {
                     self.check(bytes, column, content, u32::MAX)?;

@@ -34,34 +34,29 @@ use crate::rows::from_cell::FromCell;
 #[derive(Clone, Copy, Debug)]
 pub struct LentItems<'a, 's> {
     kind: Kind,
+    /// The kind of the next item, and in a list, a set or a map that of the item after it.
+    next: Kind,
+    other: Kind,
     count: u32,
-    source: Source<'a, 's>,
+    /// How many items are left; of a tuple or a user-defined value 0 where no bytes are.
+    left: u32,
+    /// The place of the first inner type of a list, a set or a map; of the next field's type of a tuple or a user-defined value.
+    place: u32,
+    /// The bytes from the next item on, to the end of the value; of items in steps the bytes in which their contents lie.
+    rest: &'a [u8],
+    /// The address from which on what is read of the value is not passed yet.
+    begun: usize,
+    source: Source<'s>,
 }
 
 /// Where the items are.
 #[derive(Clone, Copy, Debug)]
-enum Source<'a, 's> {
-    /// In steps, whose contents lie in the bytes.
-    Held { steps: &'s [Step], bytes: &'a [u8] },
+enum Source<'s> {
+    /// In steps.
+    Held(&'s [Step]),
     /// In a page.
-    Lying(Lying<'a, 's>),
+    Lying(&'s Checked<'s>),
 }
-
-/// Items where they lie in a page.
-#[derive(Clone, Copy, Debug)]
-struct Lying<'a, 's> {
-    /// The bytes from the next item on, to the end of the value.
-    rest: &'a [u8],
-    /// How many items are left; of a tuple or a user-defined value 0 where no bytes are.
-    left: u32,
-    /// The place of the next item's type.
-    next: u32,
-    /// The place of the type after that, in a list, a set or a map; `FIELDS` in a tuple or a user-defined value, whose types follow one another.
-    other: u32,
-    of: &'s Checked<'s>,
-}
-
-const FIELDS: u32 = u32::MAX;
 
 /// How far a cell is checked, of which items are read.
 #[derive(Debug)]
@@ -91,12 +86,11 @@ impl Checked<'_> {
         place + self.types.get(place as usize).map_or(1, |node| node.span)
     }
 
-    /// What begins at this address is read, up to the rest of its value, of which so many items are left.
+    /// What lies from one address up to another is read.
     #[inline(always)]
-    fn pass(&self, from: usize, rest: &[u8], left: u32) {
-        // The rest of a value without bytes begins where the next value does, which is not reached while items are wanting.
-        if self.up_to.get() == from && (left == 0 || !rest.is_empty()) {
-            self.up_to.set(address_of(rest));
+    fn pass(&self, from: usize, to: usize) {
+        if self.up_to.get() == from {
+            self.up_to.set(to);
         }
     }
 }
@@ -104,30 +98,36 @@ impl Checked<'_> {
 impl<'a, 's> LentItems<'a, 's> {
     /// Items in steps.
     pub(crate) fn held(kind: Kind, count: u32, steps: &'s [Step], bytes: &'a [u8]) -> Self {
-        LentItems { kind, count, source: Source::Held { steps, bytes } }
+        let source = Source::Held(steps);
+        LentItems { kind, next: Kind::Raw, other: Kind::Raw, count, left: 0, place: 0, rest: bytes, begun: 0, source }
     }
 
     /// The items of a value of the type at this place, with this content. None where there is no count.
     #[inline]
     pub(crate) fn lying(of: &'s Checked<'s>, place: u32, content: &'a [u8]) -> Option<Self> {
-        let node = of.types.get(place as usize)?;
-        let next = place + 1;
-        let (count, left, other, rest) = match node.kind {
-            Kind::Tuple | Kind::Udt => (node.arity.into(), node.arity.into(), FIELDS, content),
-            kind => {
+        let kind = of.types.get(place as usize)?.kind;
+        let (count, left, other, rest) = match kind {
+            Kind::Tuple | Kind::Udt => {
+                let arity = of.types.get(place as usize)?.arity.into();
+                (arity, arity, Kind::Raw, content)
+            }
+            _ => {
                 let (front, rest) = content.split_first_chunk()?;
                 let count = u32::try_from(i32::from_be_bytes(*front)).ok()?;
-                if kind == Kind::Map { (count, count * 2, of.after(next), rest) } else { (count, count, next, rest) }
+                let (left, other) = if kind == Kind::Map { (count * 2, of.after(place + 1)) } else { (count, place + 1) };
+                (count, left, of.kind(other), rest)
             }
         };
-        Some(LentItems { kind: node.kind, count, source: Source::Lying(Lying { rest, left, next, other, of }) })
+        let (next, begun, source) = (of.kind(place + 1), address_of(rest), Source::Lying(of));
+        Some(LentItems { kind, next, other, count, left, place: place + 1, rest, begun, source })
     }
 
-    /// What of the value is read once its items are lent, which begins at this address: its length, and its count.
-    #[inline]
-    pub(crate) fn pass_front(&self, from: usize) {
-        if let Source::Lying(Lying { rest, left, of, .. }) = &self.source {
-            of.pass(from, rest, *left);
+    /// What of a value in a page is read once its items are lent, which begins at this address: its length, and its count.
+    #[inline(always)]
+    pub(crate) fn pass_front(&self, of: &Checked<'_>, from: usize) {
+        // The rest of a value without bytes begins where the next value does, which is not reached while items are wanting.
+        if self.left == 0 || !self.rest.is_empty() {
+            of.pass(from, self.begun);
         }
     }
 }
@@ -149,9 +149,9 @@ impl LentItems<'_, '_> {
     /// How many items there may be at most, which is no more than came.
     #[must_use]
     pub(crate) fn room(&self) -> usize {
-        let came = match &self.source {
-            Source::Held { steps, .. } => steps.len(),
-            Source::Lying(lying) => lying.rest.len() / 4,
+        let came = match self.source {
+            Source::Held(steps) => steps.len(),
+            Source::Lying(_) => self.rest.len() / 4,
         };
         came.min(self.count as usize)
     }
@@ -166,14 +166,14 @@ impl<'a> LentItems<'a, '_> {
     /// Why an item has no such value. The items before it were handed.
     #[inline]
     pub fn read_each<T: FromCell<'a>>(self, mut hand: impl FnMut(T)) -> Result<(), Mismatch> {
-        match &self.source {
-            Source::Lying(lying) if lying.next == lying.other && is_known::<T>(lying.of.kind(lying.next)) => {
+        match self.source {
+            Source::Lying(of) if matches!(self.kind, Kind::List | Kind::Set) && is_known::<T>(self.next) => {
                 let read = |bytes| {
-                    let (value, rest) = read_known(lying.of.limits, bytes)?;
+                    let (value, rest) = read_known(of.limits, bytes)?;
                     hand(value);
                     Ok(rest)
                 };
-                lying.read_scalars(1, read)
+                self.read_scalars(of, 1, read)
             }
             _ => read_items(self, &mut hand),
         }
@@ -187,15 +187,15 @@ impl<'a> LentItems<'a, '_> {
     /// Why an item has no such value. The pairs before it were handed.
     #[inline]
     pub fn read_pairs<K: FromCell<'a>, V: FromCell<'a>>(self, mut hand: impl FnMut(K, V)) -> Result<(), Mismatch> {
-        match &self.source {
-            Source::Lying(lying) if self.kind == Kind::Map && lying.knows::<K, V>() => {
+        match self.source {
+            Source::Lying(of) if self.kind == Kind::Map && is_known::<K>(self.next) && is_known::<V>(self.other) => {
                 let read = |bytes| {
-                    let (key, rest) = read_known(lying.of.limits, bytes)?;
-                    let (value, rest) = read_known(lying.of.limits, rest)?;
+                    let (key, rest) = read_known(of.limits, bytes)?;
+                    let (value, rest) = read_known(of.limits, rest)?;
                     hand(key, value);
                     Ok(rest)
                 };
-                lying.read_scalars(2, read)
+                self.read_scalars(of, 2, read)
             }
             _ => read_items_by_two(self, &mut hand),
         }
@@ -226,19 +226,46 @@ fn read_items_by_two<'a, K: FromCell<'a>, V: FromCell<'a>>(
 impl<'a, 's> Iterator for LentItems<'a, 's> {
     type Item = LentCell<'a, 's>;
 
+    /// The next item; None also where a decoder refuses it. The common ones are read in the caller, and no other function is given a
+    /// reference to the items, so that a loop has them in registers.
     #[inline(always)]
     fn next(&mut self) -> Option<LentCell<'a, 's>> {
-        match &mut self.source {
-            Source::Held { steps, bytes } => next_held(steps, bytes),
-            Source::Lying(lying) => lying.next_item(),
+        let of = match self.source {
+            Source::Lying(of) => of,
+            Source::Held(steps) => {
+                let (cell, steps) = next_held(steps, self.rest)?;
+                self.source = Source::Held(steps);
+                return Some(cell);
+            }
+        };
+        if self.left == 0 {
+            return None;
         }
+        let common = match self.next {
+            Kind::Int => front(of.limits, Kind::Int, self.rest),
+            Kind::Varchar => front(of.limits, Kind::Varchar, self.rest),
+            _ => None,
+        };
+        if let Some((cell, rest)) = common {
+            self.go_on(of, rest);
+            return Some(cell);
+        }
+        let Some((cell, rest)) = read_other(of, self.next, self.place_of_next(of), self.rest) else {
+            self.left = 0;
+            return None;
+        };
+        match &cell {
+            LentCell::Items(inner) => self.go_around(of, inner, rest),
+            _ => self.go_on(of, rest),
+        }
+        Some(cell)
     }
 }
 
-/// The next of the items in these steps.
+/// The next of the items in these steps, and the steps after it.
 #[inline(never)]
-fn next_held<'a, 's>(steps: &mut &'s [Step], bytes: &'a [u8]) -> Option<LentCell<'a, 's>> {
-    let (&step, mut rest) = steps.split_first()?;
+fn next_held<'a, 's>(steps: &'s [Step], bytes: &'a [u8]) -> Option<(LentCell<'a, 's>, &'s [Step])> {
+    let (&step, rest) = steps.split_first()?;
     let cell = match step {
         Step::Null => LentCell::Null,
         Step::Empty => LentCell::Empty,
@@ -246,104 +273,83 @@ fn next_held<'a, 's>(steps: &mut &'s [Step], bytes: &'a [u8]) -> Option<LentCell
         Step::Content { kind, start, len } => LentCell::Scalar(content(kind, bytes, start, len)),
         Step::Enter { kind, count, len } => {
             let (inner, after) = rest.split_at(rest.len().min(len as usize));
-            rest = after;
-            LentCell::Items(LentItems::held(kind, count, inner, bytes))
+            return Some((LentCell::Items(LentItems::held(kind, count, inner, bytes)), after));
         }
     };
-    *steps = rest;
-    Some(cell)
+    Some((cell, rest))
 }
 
-impl<'a, 's> Lying<'a, 's> {
-    /// The next item; None also where a decoder refuses it. The common ones are read in the caller.
+/// The item of the type at this place at the front of these bytes, and the bytes after it; None where a decoder refuses it.
+#[inline(never)]
+fn read_other<'a, 's>(of: &'s Checked<'s>, kind: Kind, place: u32, bytes: &'a [u8]) -> Option<(LentCell<'a, 's>, &'a [u8])> {
+    let item = read_cell(of.limits, kind, bytes).ok()?;
+    let cell = match item.content {
+        CellContent::Null => LentCell::Null,
+        CellContent::Empty => LentCell::Empty,
+        CellContent::Scalar(scalar) => LentCell::Scalar(scalar),
+        CellContent::Items(content) => LentCell::Items(LentItems::lying(of, place, content)?),
+    };
+    Some((cell, &bytes[item.used..]))
+}
+
+impl<'a> LentItems<'a, '_> {
+    /// Whether it is a tuple or a user-defined value.
     #[inline(always)]
-    fn next_item(&mut self) -> Option<LentCell<'a, 's>> {
-        if self.left == 0 {
-            return None;
-        }
-        match self.of.kind(self.next) {
-            Kind::Int => {
-                if let Some((cell, rest)) = front(self.of.limits, Kind::Int, self.rest) {
-                    self.go_on(rest);
-                    return Some(cell);
-                }
-            }
-            Kind::Varchar => {
-                if let Some((cell, rest)) = front(self.of.limits, Kind::Varchar, self.rest) {
-                    self.go_on(rest);
-                    return Some(cell);
-                }
-            }
-            _ => {}
-        }
-        self.next_other()
+    fn has_fields(&self) -> bool {
+        matches!(self.kind, Kind::Tuple | Kind::Udt)
     }
 
-    /// The next item, which there is.
-    #[inline(never)]
-    fn next_other(&mut self) -> Option<LentCell<'a, 's>> {
-        let Ok(item) = read_cell(self.of.limits, self.of.kind(self.next), self.rest) else {
-            self.left = 0;
-            return None;
-        };
-        let (from, place, rest) = (address_of(self.rest), self.next, &self.rest[item.used..]);
-        let cell = match item.content {
-            CellContent::Null => LentCell::Null,
-            CellContent::Empty => LentCell::Empty,
-            CellContent::Scalar(scalar) => LentCell::Scalar(scalar),
-            CellContent::Items(content) => {
-                self.advance(rest);
-                return self.enter(from, place, content);
-            }
-        };
-        self.go_on(rest);
-        Some(cell)
+    /// The place of the next item's type.
+    #[inline(always)]
+    fn place_of_next(&self, of: &Checked<'_>) -> u32 {
+        if self.kind == Kind::Map && self.left % 2 == 1 { of.after(self.place) } else { self.place }
     }
 
     /// Goes on after a scalar.
     #[inline(always)]
-    fn go_on(&mut self, rest: &'a [u8]) {
+    fn go_on(&mut self, of: &Checked<'_>, rest: &'a [u8]) {
+        self.advance(of, rest);
+        if self.left == 0 {
+            of.pass(self.begun, address_of(rest));
+        }
+    }
+
+    /// Goes on after an item with items, which passes what is read of it.
+    #[inline(always)]
+    fn go_around(&mut self, of: &Checked<'_>, inner: &LentItems<'_, '_>, rest: &'a [u8]) {
         let from = address_of(self.rest);
-        self.advance(rest);
-        self.of.pass(from, rest, self.left);
+        of.pass(self.begun, from);
+        self.advance(of, rest);
+        self.begun = address_of(rest);
+        // Where an item after it is wanting, nothing in it is passed either.
+        if self.left == 0 || !rest.is_empty() {
+            inner.pass_front(of, from);
+        }
     }
 
     /// Goes on after an item.
     #[inline(always)]
-    fn advance(&mut self, rest: &'a [u8]) {
+    fn advance(&mut self, of: &Checked<'_>, rest: &'a [u8]) {
         self.rest = rest;
         self.left -= 1;
-        if self.other == FIELDS {
-            self.next = self.of.after(self.next);
+        if self.has_fields() {
+            self.place = of.after(self.place);
+            self.next = of.kind(self.place);
             // The last fields may be left out.
-            self.left = if self.rest.is_empty() { 0 } else { self.left };
+            self.left = if rest.is_empty() { 0 } else { self.left };
         } else {
             (self.next, self.other) = (self.other, self.next);
         }
     }
 
-    /// The item of the type at this place, which has items, began at this address, and was passed.
-    fn enter(&mut self, from: usize, place: u32, content: &'a [u8]) -> Option<LentCell<'a, 's>> {
-        let Some(items) = LentItems::lying(self.of, place, content) else {
-            self.left = 0;
-            return None;
-        };
-        // Where an item after it is wanting, nothing in it is passed either.
-        if self.left == 0 || !self.rest.is_empty() {
-            items.pass_front(from);
-        }
-        Some(LentCell::Items(items))
-    }
-
-    /// Whether these types are read the fastest from a map's keys and values.
-    #[inline(always)]
-    fn knows<K: FromCell<'a>, V: FromCell<'a>>(&self) -> bool {
-        is_known::<K>(self.of.kind(self.next)) && is_known::<V>(self.of.kind(self.other))
-    }
-
     /// Reads all scalars that are left, so many at a time.
     #[inline(always)]
-    fn read_scalars(&self, at_a_time: u32, mut read: impl FnMut(&'a [u8]) -> Result<&'a [u8], NotRead>) -> Result<(), Mismatch> {
+    fn read_scalars(
+        &self,
+        of: &Checked<'_>,
+        at_a_time: u32,
+        mut read: impl FnMut(&'a [u8]) -> Result<&'a [u8], NotRead>,
+    ) -> Result<(), Mismatch> {
         let mut rest = self.rest;
         for _ in 0..self.left / at_a_time {
             match read(rest) {
@@ -353,7 +359,7 @@ impl<'a, 's> Lying<'a, 's> {
                 Err(_) => return Ok(()),
             }
         }
-        self.of.pass(address_of(self.rest), rest, 0);
+        of.pass(self.begun, address_of(rest));
         Ok(())
     }
 }
