@@ -6,7 +6,7 @@ use crate::cqlp_kind::{Kind, Node};
 use crate::cqlp_note::Limits;
 use crate::cqlp_read_value::{CellContent, read_cell};
 use crate::rows::cell::{LentCell, Step, content};
-use crate::rows::cells::{NotRead, WhyNot, front, is_known, read_known};
+use crate::rows::cells::{NotRead, WhyNot, front, read_known};
 use crate::rows::error::Mismatch;
 use crate::rows::from_cell::FromCell;
 
@@ -34,9 +34,9 @@ use crate::rows::from_cell::FromCell;
 #[derive(Clone, Copy, Debug)]
 pub struct LentItems<'a, 's> {
     kind: Kind,
-    /// The kind of the next item, and in a list, a set or a map that of the item after it.
-    next: Kind,
-    other: Kind,
+    /// The number of the next item's kind in the low byte, and in the high one that of the item after it, or `FIELDS` in a tuple or a
+    /// user-defined value.
+    kinds: u16,
     count: u32,
     /// How many items are left; of a tuple or a user-defined value 0 where no bytes are.
     left: u32,
@@ -57,6 +57,8 @@ enum Source<'s> {
     /// In a page.
     Lying(&'s Checked<'s>),
 }
+
+const FIELDS: u16 = 0xff;
 
 /// How far a cell is checked, of which items are read.
 #[derive(Debug)]
@@ -99,7 +101,7 @@ impl<'a, 's> LentItems<'a, 's> {
     /// Items in steps.
     pub(crate) fn held(kind: Kind, count: u32, steps: &'s [Step], bytes: &'a [u8]) -> Self {
         let source = Source::Held(steps);
-        LentItems { kind, next: Kind::Raw, other: Kind::Raw, count, left: 0, place: 0, rest: bytes, begun: 0, source }
+        LentItems { kind, kinds: 0, count, left: 0, place: 0, rest: bytes, begun: 0, source }
     }
 
     /// The items of a value of the type at this place, with this content. None where there is no count.
@@ -109,17 +111,17 @@ impl<'a, 's> LentItems<'a, 's> {
         let (count, left, other, rest) = match kind {
             Kind::Tuple | Kind::Udt => {
                 let arity = of.types.get(place as usize)?.arity.into();
-                (arity, arity, Kind::Raw, content)
+                (arity, arity, FIELDS, content)
             }
             _ => {
                 let (front, rest) = content.split_first_chunk()?;
                 let count = u32::try_from(i32::from_be_bytes(*front)).ok()?;
                 let (left, other) = if kind == Kind::Map { (count * 2, of.after(place + 1)) } else { (count, place + 1) };
-                (count, left, of.kind(other), rest)
+                (count, left, of.kind(other) as u16, rest)
             }
         };
-        let (next, begun, source) = (of.kind(place + 1), address_of(rest), Source::Lying(of));
-        Some(LentItems { kind, next, other, count, left, place: place + 1, rest, begun, source })
+        let (kinds, begun, source) = (of.kind(place + 1) as u16 | other << 8, address_of(rest), Source::Lying(of));
+        Some(LentItems { kind, kinds, count, left, place: place + 1, rest, begun, source })
     }
 
     /// What of a value in a page is read once its items are lent, which begins at this address: its length, and its count.
@@ -167,7 +169,7 @@ impl<'a> LentItems<'a, '_> {
     #[inline]
     pub fn read_each<T: FromCell<'a>>(self, mut hand: impl FnMut(T)) -> Result<(), Mismatch> {
         match self.source {
-            Source::Lying(of) if matches!(self.kind, Kind::List | Kind::Set) && is_known::<T>(self.next) => {
+            Source::Lying(of) if self.knows::<T, T>() => {
                 let read = |bytes| {
                     let (value, rest) = read_known(of.limits, bytes)?;
                     hand(value);
@@ -188,7 +190,7 @@ impl<'a> LentItems<'a, '_> {
     #[inline]
     pub fn read_pairs<K: FromCell<'a>, V: FromCell<'a>>(self, mut hand: impl FnMut(K, V)) -> Result<(), Mismatch> {
         match self.source {
-            Source::Lying(of) if self.kind == Kind::Map && is_known::<K>(self.next) && is_known::<V>(self.other) => {
+            Source::Lying(of) if self.knows::<K, V>() => {
                 let read = |bytes| {
                     let (key, rest) = read_known(of.limits, bytes)?;
                     let (value, rest) = read_known(of.limits, rest)?;
@@ -241,16 +243,18 @@ impl<'a, 's> Iterator for LentItems<'a, 's> {
         if self.left == 0 {
             return None;
         }
-        let common = match self.next {
-            Kind::Int => front(of.limits, Kind::Int, self.rest),
-            Kind::Varchar => front(of.limits, Kind::Varchar, self.rest),
-            _ => None,
-        };
-        if let Some((cell, rest)) = common {
-            self.go_on(of, rest);
-            return Some(cell);
+        if self.is_next(Kind::Int) {
+            if let Some((cell, rest)) = front(of.limits, Kind::Int, self.rest) {
+                self.go_on(of, rest);
+                return Some(cell);
+            }
+        } else if self.is_next(Kind::Varchar) {
+            if let Some((cell, rest)) = front(of.limits, Kind::Varchar, self.rest) {
+                self.go_on(of, rest);
+                return Some(cell);
+            }
         }
-        let Some((cell, rest)) = read_other(of, self.next, self.place_of_next(of), self.rest) else {
+        let Some((cell, rest)) = read_other(of, self.place_of_next(of), self.rest) else {
             self.left = 0;
             return None;
         };
@@ -281,8 +285,8 @@ fn next_held<'a, 's>(steps: &'s [Step], bytes: &'a [u8]) -> Option<(LentCell<'a,
 
 /// The item of the type at this place at the front of these bytes, and the bytes after it; None where a decoder refuses it.
 #[inline(never)]
-fn read_other<'a, 's>(of: &'s Checked<'s>, kind: Kind, place: u32, bytes: &'a [u8]) -> Option<(LentCell<'a, 's>, &'a [u8])> {
-    let item = read_cell(of.limits, kind, bytes).ok()?;
+fn read_other<'a, 's>(of: &'s Checked<'s>, place: u32, bytes: &'a [u8]) -> Option<(LentCell<'a, 's>, &'a [u8])> {
+    let item = read_cell(of.limits, of.kind(place), bytes).ok()?;
     let cell = match item.content {
         CellContent::Null => LentCell::Null,
         CellContent::Empty => LentCell::Empty,
@@ -293,10 +297,19 @@ fn read_other<'a, 's>(of: &'s Checked<'s>, kind: Kind, place: u32, bytes: &'a [u
 }
 
 impl<'a> LentItems<'a, '_> {
-    /// Whether it is a tuple or a user-defined value.
+    /// Whether the next item is of this kind.
     #[inline(always)]
-    fn has_fields(&self) -> bool {
-        matches!(self.kind, Kind::Tuple | Kind::Udt)
+    fn is_next(&self, kind: Kind) -> bool {
+        self.kinds & 0xff == kind as u16
+    }
+
+    /// Whether these types are read the fastest from the next item and from the one after it, and so by turns.
+    #[inline(always)]
+    fn knows<K: FromCell<'a>, V: FromCell<'a>>(&self) -> bool {
+        match (K::KIND, V::KIND) {
+            (Some(key), Some(value)) => key.is_scalar() && value.is_scalar() && self.kinds == key as u16 | (value as u16) << 8,
+            _ => false,
+        }
     }
 
     /// The place of the next item's type.
@@ -332,13 +345,13 @@ impl<'a> LentItems<'a, '_> {
     fn advance(&mut self, of: &Checked<'_>, rest: &'a [u8]) {
         self.rest = rest;
         self.left -= 1;
-        if self.has_fields() {
+        if self.kinds >> 8 == FIELDS {
             self.place = of.after(self.place);
-            self.next = of.kind(self.place);
+            self.kinds = of.kind(self.place) as u16 | FIELDS << 8;
             // The last fields may be left out.
             self.left = if rest.is_empty() { 0 } else { self.left };
         } else {
-            (self.next, self.other) = (self.other, self.next);
+            self.kinds = self.kinds.swap_bytes();
         }
     }
 

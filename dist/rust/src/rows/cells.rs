@@ -183,7 +183,7 @@ impl<'a, 's> RowCells<'a, 's> {
 
 /// Whether a type is read the fastest from cells of this kind.
 #[inline(always)]
-pub(crate) fn is_known<'a, T: FromCell<'a>>(kind: Kind) -> bool {
+fn is_known<'a, T: FromCell<'a>>(kind: Kind) -> bool {
     T::KIND == Some(kind) && kind.is_scalar()
 }
 
