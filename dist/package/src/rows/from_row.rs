@@ -95,6 +95,17 @@ fn read_apart<'a, T: FromRow<'a>>(cells: &mut RowCells<'a, '_>) -> Result<Option
     T::read(cells)
 }
 
+/// Makes the row of the fields that came.
+#[inline(always)]
+pub(crate) fn finish<T: Row>(partial: &mut T::Partial) -> Option<T> {
+    if is_wide(T::WIDTH) { finish_apart(partial) } else { T::finish(partial) }
+}
+
+#[inline(never)]
+fn finish_apart<T: Row>(partial: &mut T::Partial) -> Option<T> {
+    T::finish(partial)
+}
+
 /// Implements both traits for tuples of these types.
 macro_rules! tuples {
     ($($type:ident $place:tt)+; $width:literal) => {
@@ -219,7 +230,7 @@ macro_rules! row {
                     cells: &mut $crate::rows::RowCells<$cell, '_>,
                 ) -> ::core::result::Result<::core::option::Option<Self>, $crate::rows::NotRead> {
                     let mut first = cells.first(__WIDTH);
-                    let row = $name { $($field: first.take(__At::$field)?),+ };
+                    let row = $name { $($field: first.take_of::<{ $crate::rows::is_wide(__WIDTH) }, _>(__At::$field)?),+ };
                     cells.pass(first);
                     ::core::result::Result::Ok(::core::option::Option::Some(row))
                 }

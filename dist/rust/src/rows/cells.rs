@@ -171,6 +171,22 @@ impl<'a, 's> RowCells<'a, 's> {
         Ok(value)
     }
 
+    /// The same for a type that is wide or not: for a wide one, what takes many instructions is compiled once for each type of a field.
+    ///
+    /// # Errors
+    ///
+    /// As [`RowCells::take`].
+    #[inline(always)]
+    pub fn take_of<const WIDE: bool, T: FromCell<'a>>(&mut self, column: usize) -> Result<T, NotRead> {
+        if const { WIDE && !is_short::<T>() } {
+            let (value, rest) = take_apart(self.reading, self.rest, column)?;
+            self.rest = rest;
+            Ok(value)
+        } else {
+            self.take(column)
+        }
+    }
+
     /// Passes over the cells from this column on.
     #[inline(never)]
     pub(crate) fn pass_over(&mut self, from: usize) -> Result<(), NotRead> {
@@ -179,6 +195,22 @@ impl<'a, 's> RowCells<'a, 's> {
         }
         Ok(())
     }
+}
+
+/// Whether the kind from which a type is read the fastest has contents of one length, which takes few instructions to read.
+const fn is_short<'a, T: FromCell<'a>>() -> bool {
+    match T::KIND {
+        Some(kind) => size_of(kind).is_some(),
+        None => false,
+    }
+}
+
+/// The value of the cell of this column at the front of these bytes, and the bytes after it.
+#[inline(never)]
+fn take_apart<'a, T: FromCell<'a>>(reading: &CellReading, bytes: &'a [u8], column: usize) -> Result<(T, &'a [u8]), NotRead> {
+    let mut cells = RowCells::new(bytes, reading);
+    let value = cells.take(column)?;
+    Ok((value, cells.rest))
 }
 
 /// Whether a type is read the fastest from cells of this kind.
@@ -195,7 +227,7 @@ fn mismatch(column: usize, why: Mismatch) -> NotRead {
 
 /// How many bytes each content of this kind has, where all have as many.
 #[inline(always)]
-fn size_of(kind: Kind) -> Option<u32> {
+const fn size_of(kind: Kind) -> Option<u32> {
     match kind {
         Kind::Bigint | Kind::Counter | Kind::Timestamp | Kind::Time | Kind::Double => Some(8),
         Kind::Int | Kind::Date | Kind::Float => Some(4),

@@ -10,7 +10,7 @@ use crate::cqlp_message::Spec;
 use crate::cqlp_note::{Field, Header};
 use crate::rows::cell::{LentCell, NotHeld, OpenCell, Place, Step};
 use crate::rows::error::{Mismatch, RowError};
-use crate::rows::from_row::{FromRow, Row, set};
+use crate::rows::from_row::{FromRow, Row, finish, set};
 
 /// What a frame says beside its cells.
 #[derive(Clone, Debug, Default, PartialEq, Eq)]
@@ -190,7 +190,7 @@ impl<T: Row> Reading<T> {
     /// The row whose last cell came.
     #[inline(always)]
     pub(crate) fn end_row(&mut self) -> Result<T, SinkFault> {
-        T::finish(&mut self.partial).ok_or_else(|| self.give_up(RowError::NoNames))
+        finish::<T>(&mut self.partial).ok_or_else(|| self.give_up(RowError::NoNames))
     }
 
     /// Takes an event that is of no cell, or of the items of one, whose contents lie here.
