@@ -2,7 +2,9 @@
 #ifndef CQLP_BOX_H
 #define CQLP_BOX_H
 
+#include <stddef.h>
 #include <stdlib.h>
+#include <string.h>
 #include "cqlp.h"
 
 enum { CQLP_ROOM = 256 };
@@ -18,10 +20,23 @@ typedef struct {
   cqlp_skipped skipped;
   cqlp_columns columns;
   cqlp_column column;
-  // where in the input the content of each event lies
-  size_t places[CQLP_ROOM];
   cqlp_event events[CQLP_ROOM];
 } cqlp_box;
+
+// An event without an address: of a content it has the place in the input. The members lie as those of cqlp_event.
+typedef struct {
+  uint64_t at;
+  size_t place, length;
+  int64_t number;
+  uint32_t row, column, level;
+  int32_t extra;
+  uint8_t bytes[16];
+  uint8_t tag, field, kind, opcode, flags, mark, octets;
+} cqlp_placed;
+
+_Static_assert(sizeof(cqlp_placed) == sizeof(cqlp_event) && offsetof(cqlp_placed, place) == offsetof(cqlp_event, content) &&
+                   offsetof(cqlp_placed, tag) == offsetof(cqlp_event, tag) && offsetof(cqlp_placed, octets) == offsetof(cqlp_event, octets),
+               "both lie alike");
 
 static inline cqlp_box *cqlp_box_new(const cqlp_limits *limits, int lenient, uint32_t *code) {
   cqlp_box *box = calloc(1, sizeof *box);
@@ -33,25 +48,28 @@ static inline cqlp_box *cqlp_box_new(const cqlp_limits *limits, int lenient, uin
   return box;
 }
 
-// The input is memory of Go, so no address in it stays: of a content there its place is kept.
-static inline void cqlp_box_place(cqlp_box *box, const uint8_t *input, size_t length) {
+// Copies the events to memory of Go, into which C writes no address. The input is memory of Go too, so no address in it stays: of a content there its
+// place is kept.
+static inline void cqlp_box_place(cqlp_box *box, const uint8_t *input, size_t length, cqlp_placed *placed) {
   for (size_t i = 0; i < box->batch.events; i++) {
     cqlp_event *event = &box->events[i];
     size_t place = (uintptr_t)event->content - (uintptr_t)input;
     int in_decoder = event->length && place >= length;
-    box->places[i] = in_decoder ? CQLP_IN_DECODER : event->length ? place : 0;
+    memcpy(&placed[i], event, sizeof *event);
+    placed[i].place = in_decoder ? CQLP_IN_DECODER : event->length ? place : 0;
+    // after the copy, which would wait for a store to what it reads
     if (!in_decoder) event->content = NULL;
   }
 }
 
-static inline void cqlp_box_next(cqlp_box *box, const uint8_t *input, size_t length, size_t room) {
+static inline void cqlp_box_next(cqlp_box *box, const uint8_t *input, size_t length, size_t room, cqlp_placed *placed) {
   cqlp_next(&box->decoder, input, length, box->events, room, &box->batch);
-  cqlp_box_place(box, input, length);
+  cqlp_box_place(box, input, length, placed);
 }
 
-static inline void cqlp_box_fill(cqlp_box *box, const uint8_t *input, size_t length) {
+static inline void cqlp_box_fill(cqlp_box *box, const uint8_t *input, size_t length, cqlp_placed *placed) {
   cqlp_columns_next(&box->decoder, &box->columns, input, length, box->events, &box->batch);
-  cqlp_box_place(box, input, length);
+  cqlp_box_place(box, input, length, placed);
 }
 
 // How many rows are whole in this many columns: the last one has no cell of the row under way.

@@ -12,18 +12,25 @@ type NamedValue struct {
 	Value any
 }
 
-// cells gathers the events of a row, since Scan reads them as what they are asked for.
+// cells has the events of a row, since Scan reads them as what they are asked for. A row that lies in a batch is read there, and one that is of several is
+// gathered.
 type cells struct {
 	parser *parser
 	width  int
 	// the columns, if they are described
 	columns []Column
-	events  []Event
-	// where the cells of the row begin among the events
+	// the events of the row, and what their contents lie in
+	row  []placed
+	from []byte
+	// how many cells the row has, and where they begin among the events, nil where each cell is one event
+	count  int
 	starts []int
-	// how many of the events have their contents in the memory of this row, and this
-	kept   int
+	// how many events the last row had that lay in a batch
+	each int
+	// what a row is gathered in
+	events []placed
 	memory []byte
+	begins []int
 }
 
 // begin makes ready for the rows of a page, which this table types where the page describes no columns.
@@ -35,96 +42,130 @@ func (c *cells) begin(page *Metadata, types *Types) {
 }
 
 // clear leaves no row.
-func (c *cells) clear() {
-	c.events, c.starts, c.kept, c.memory = c.events[:0], c.starts[:0], 0, c.memory[:0]
-}
+func (c *cells) clear() { c.row, c.from, c.count, c.starts = nil, nil, 0, nil }
 
-// next gathers the events of the next row, where one comes.
+// next goes on to the next row, where one comes.
 func (c *cells) next() bool {
-	c.clear()
-	if c.width == 0 {
-		return false
-	}
-	d := c.parser.reader.decoder
-	for open := false; open || len(c.starts) < c.width; {
+	if d := c.parser.reader.decoder; d.next == d.count && c.width > 0 {
+		c.events = c.events[:0]
 		if !c.comes() {
+			c.clear()
 			return false
 		}
-		open = c.gather(d, open)
 	}
+	return c.lend() || c.lendItems() || c.gather()
+}
+
+// lend takes a row of scalars that lies in the batch: the event that is as far on as there are columns is one of the last column. The memory of such a row is Go's,
+// so this needs no enter.
+func (c *cells) lend() bool {
+	d := c.parser.reader.decoder
+	end := d.next + c.width
+	if c.width == 0 || c.parser.failed != nil || end > d.count {
+		return false
+	}
+	row := d.events[d.next:end]
+	first, last := &row[0], &row[len(row)-1]
+	if !first.isScalar() || !last.isScalar() || last.level != 0 || int(last.column) != len(row)-1 || last.row != first.row || last.place == inDecoder {
+		return false
+	}
+	d.next = end
+	c.row, c.from, c.count, c.starts, c.each = row, d.piece, len(row), nil, len(row)
 	return true
 }
 
-// gather takes the events of the row that lie in the batch, of which there is one at least, and says whether a cell is open after them, as it may
-// be before them.
-func (c *cells) gather(d *Decoder, open bool) bool {
-	for d.next < d.count && (open || len(c.starts) < c.width) {
-		native, place := &d.box.events[d.next], d.box.places[d.next]
-		tag := Tag(native.tag)
-		if tag < TagLeaf || tag > TagPart {
-			break
+// lendItems takes a row with items that lies in the batch.
+func (c *cells) lendItems() bool {
+	d := c.parser.reader.decoder
+	c.begins = c.begins[:0]
+	if c.width == 0 || c.parser.failed != nil {
+		return false
+	}
+	row, open := d.events[d.next:d.count], false
+	for i := range row {
+		e := &row[i]
+		if !e.isOfCell() || e.place == inDecoder {
+			return false
 		}
 		if !open {
-			c.starts = append(c.starts, len(c.events))
+			c.begins = append(c.begins, i)
 		}
-		e := c.push()
-		if place == inDecoder {
-			d.put(e)
-		} else { // as put does: most are such
-			d.next++
-			end := place + native.length
-			fillEvent(e, native, d.piece[place:end:end])
+		if open = e.goesOn(); !open && len(c.begins) == c.width {
+			d.next += i + 1
+			c.row, c.from, c.count, c.starts, c.each = row[:i+1], d.piece, c.width, c.begins, i+1
+			return true
 		}
-		open = e.Level > 0 || tag == TagEnter || tag == TagPart && e.Mark != MarkLast
 	}
-	return open
+	return false
+}
+
+// gather copies the events of the next row, and their contents.
+func (c *cells) gather() bool {
+	c.clear()
+	c.events, c.memory, c.begins = c.events[:0], c.memory[:0], c.begins[:0]
+	d := c.parser.reader.decoder
+	for open := false; open || len(c.begins) < c.width; {
+		if !c.comes() {
+			return false
+		}
+		if !open {
+			c.begins = append(c.begins, len(c.events))
+		}
+		e := d.events[d.next]
+		if e.length > 0 {
+			at := len(c.memory)
+			c.memory = d.appendContent(c.memory, d.next)
+			e.place = uintptr(at)
+		}
+		d.next++
+		c.events = append(c.events, e)
+		open = e.goesOn()
+	}
+	c.row, c.from, c.count, c.starts = c.events, c.memory, c.width, c.begins
+	return c.width > 0
 }
 
 // comes says whether the next event is one of a cell.
 func (c *cells) comes() bool {
 	d := c.parser.reader.decoder
-	if c.parser.failed == nil && (d.next == d.count || d.box == nil) {
-		c.keep()
+	if c.parser.failed == nil && d.next == d.count {
+		c.parser.reader.room = c.room()
 		c.parser.failed = c.parser.reader.fill()
+		c.parser.reader.room = room
 	}
-	if c.parser.failed != nil {
-		return false
-	}
-	tag := Tag(d.box.events[d.next].tag)
-	return TagLeaf <= tag && tag <= TagPart
+	return c.parser.failed == nil && d.events[d.next].isOfCell()
 }
 
-// push makes room for an event, which is to be written.
-func (c *cells) push() *Event {
-	if at := len(c.events); at < cap(c.events) {
-		c.events = c.events[:at+1]
-	} else {
-		c.events = append(c.events, Event{})
+// room is how many events the next batch may have: so many that it ends with a row, where the rows have as many events as the last one that lay in a batch.
+func (c *cells) room() int {
+	each, rest := c.each, 0
+	if each < c.width {
+		each = c.width
 	}
-	return &c.events[len(c.events)-1]
+	if each > room {
+		return room
+	}
+	if had := len(c.events); had < each {
+		rest = each - had
+	}
+	return rest + (room-rest)/each*each
 }
 
-// keep copies the contents of the row that are lent of the batch.
-func (c *cells) keep() {
-	for i := c.kept; i < len(c.events); i++ {
-		e := &c.events[i]
-		if len(e.Content) == 0 {
-			continue
-		}
-		at := len(c.memory)
-		c.memory = append(c.memory, e.Content...)
-		e.Content = c.memory[at:len(c.memory):len(c.memory)]
+// start is where a cell begins.
+func (c *cells) start(at int) int {
+	if c.starts == nil {
+		return at
 	}
-	c.kept = len(c.events)
+	return c.starts[at]
 }
 
 // cell has the events of a cell, and its type, or nil where no columns are described.
 func (c *cells) cell(at int) cell {
-	end := len(c.events)
-	if at+1 < len(c.starts) {
-		end = c.starts[at+1]
+	end := len(c.row)
+	if at+1 < c.count {
+		end = c.start(at + 1)
 	}
-	found := cell{events: c.events[c.starts[at]:end]}
+	found := cell{events: c.row[c.start(at):end], from: c.from}
 	if at < len(c.columns) {
 		found.typ = &c.columns[at].Type
 	}
@@ -132,7 +173,7 @@ func (c *cells) cell(at int) cell {
 }
 
 func (c *cells) values() []any {
-	values := make([]any, len(c.starts))
+	values := make([]any, c.count)
 	for i := range values {
 		cell := c.cell(i)
 		values[i] = cell.value()
@@ -140,14 +181,15 @@ func (c *cells) values() []any {
 	return values
 }
 
-// A cell, or what is left of it: the events of the values that come next, and the type of the first, where it is known.
+// A cell, or what is left of it: the events of the values that come next, what their contents lie in, and the type of the first, where it is known.
 type cell struct {
-	events []Event
+	events []placed
+	from   []byte
 	typ    *Type
 }
 
 // take takes the next event.
-func (c *cell) take() *Event {
+func (c *cell) take() *placed {
 	e := &c.events[0]
 	c.events = c.events[1:]
 	return e
@@ -156,7 +198,7 @@ func (c *cell) take() *Event {
 // value takes the next value.
 func (c *cell) value() any {
 	typ := c.typ
-	switch e := c.take(); e.Tag {
+	switch e := c.take(); e.tag {
 	case TagNull:
 		return nil
 	case TagEmpty:
@@ -166,7 +208,7 @@ func (c *cell) value() any {
 	case TagEnter:
 		return c.items(e, typ)
 	default:
-		return e.Value()
+		return e.value(c.from)
 	}
 }
 
@@ -189,19 +231,19 @@ func emptyOf(typ *Type) any {
 }
 
 // parts puts the parts of a value together, of which this is the first.
-func (c *cell) parts(e *Event) []byte {
-	whole := clone(e.Content)
-	for e.Mark != MarkLast {
+func (c *cell) parts(e *placed) []byte {
+	whole := clone(e.content(c.from))
+	for e.mark != MarkLast {
 		e = c.take()
-		whole = append(whole, e.Content...)
+		whole = append(whole, e.content(c.from)...)
 	}
 	return whole
 }
 
 // each calls item for each value in the one that began, with the cell at it, and takes its end.
-func (c *cell) each(begin *Event, typ *Type, item func(at int) error) error {
-	for at := 0; c.events[0].Tag != TagLeave || c.events[0].Level != begin.Level; at++ {
-		c.typ = innerOf(typ, begin.Kind, at)
+func (c *cell) each(begin *placed, typ *Type, item func(at int) error) error {
+	for at := 0; !c.ends(begin); at++ {
+		c.typ = innerOf(typ, begin.kind, at)
 		if err := item(at); err != nil {
 			return err
 		}
@@ -227,13 +269,13 @@ func innerOf(typ *Type, kind Kind, at int) *Type {
 	return nil // bytes after the last field, as a lenient reading gives them
 }
 
-func (c *cell) items(begin *Event, typ *Type) any {
+func (c *cell) items(begin *placed, typ *Type) any {
 	items := []any{}
 	_ = c.each(begin, typ, func(int) error {
 		items = append(items, c.value())
 		return nil
 	})
-	switch begin.Kind {
+	switch begin.kind {
 	case KindMap:
 		pairs := make([]Pair, len(items)/2)
 		for i := range pairs {
@@ -241,11 +283,11 @@ func (c *cell) items(begin *Event, typ *Type) any {
 		}
 		return pairs
 	case KindTuple, KindUDT:
-		for len(items) < int(begin.Number) {
+		for len(items) < int(begin.number) {
 			items = append(items, nil)
 		}
 	}
-	if begin.Kind == KindUDT {
+	if begin.kind == KindUDT {
 		return namedValues(items, typ)
 	}
 	return items

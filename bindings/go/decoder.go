@@ -60,7 +60,8 @@ type Decoder struct {
 	box *C.cqlp_box
 	// twice how many calls are under way, and one more once it is closed
 	calls atomic.Int64
-	// the events of the last batch that were not given out: from next to count
+	// the events of the last batch, in memory of Go, and those that were not given out: from next to count
+	events      *[room]placed
 	next, count int
 	// what the contents of the last batch are lent of, but for one that lies in the decoder, which is copied
 	piece, copied []byte
@@ -84,7 +85,7 @@ func newDecoder(limits Limits, lenient C.int) (*Decoder, error) {
 	if err := done(code); err != nil {
 		return nil, err
 	}
-	d := &Decoder{box: box}
+	d := &Decoder{box: box, events: new([room]placed)}
 	runtime.SetFinalizer(d, (*Decoder).Close)
 	return d, nil
 }
@@ -217,10 +218,12 @@ func (d *Decoder) take(p []byte, most int) int {
 	if most > room {
 		most = room
 	}
+	// memory of Go without pointers, which C writes during the call alone
+	events := (*C.cqlp_placed)(unsafe.Pointer(d.events))
 	if most == 0 {
-		C.cqlp_box_fill(d.box, first, C.size_t(len(p)))
+		C.cqlp_box_fill(d.box, first, C.size_t(len(p)), events)
 	} else {
-		C.cqlp_box_next(d.box, first, C.size_t(len(p)), C.size_t(most))
+		C.cqlp_box_next(d.box, first, C.size_t(len(p)), C.size_t(most), events)
 	}
 	d.next, d.count = 0, int(d.box.batch.events)
 	d.piece = p
@@ -229,15 +232,23 @@ func (d *Decoder) take(p []byte, most int) int {
 
 // put gives out the next event of the last batch.
 func (d *Decoder) put(event *Event) {
-	native, place := &d.box.events[d.next], d.box.places[d.next]
-	d.next++
-	length := C.size_t(native.length)
-	if place == inDecoder {
-		d.copied = append(d.copied[:0], unsafe.Slice((*byte)(unsafe.Pointer(native.content)), int(length))...)
-		fillEvent(event, native, d.copied)
-		return
+	e := &d.events[d.next]
+	if e.place == inDecoder {
+		d.copied = d.appendContent(d.copied[:0], d.next)
+		e.fill(event, d.copied)
+	} else {
+		e.fill(event, e.content(d.piece))
 	}
-	fillEvent(event, native, d.piece[place:place+length:place+length])
+	d.next++
+}
+
+// appendContent appends the content of an event of the last batch.
+func (d *Decoder) appendContent(to []byte, at int) []byte {
+	e := &d.events[at]
+	if e.place == inDecoder {
+		return append(to, unsafe.Slice((*byte)(unsafe.Pointer(d.box.events[at].content)), int(e.length))...)
+	}
+	return append(to, e.content(d.piece)...)
 }
 
 // Skip passes over the rest of the frame within which the stream is refused, and says which it was, and why. The decoder goes on with the
@@ -257,7 +268,7 @@ func (d *Decoder) Skip() (Skipped, error) {
 	}
 	native := &d.box.skipped
 	skipped := Skipped{At: uint64(native.at), Reason: Reason(native.reason), Rest: uint64(native.rest)}
-	fillEvent(&skipped.Frame, &native.frame, nil)
+	(*placed)(unsafe.Pointer(&native.frame)).fill(&skipped.Frame, nil)
 	return skipped, nil
 }
 
@@ -312,27 +323,25 @@ func Check(limits Limits, stream []byte) (Verdict, error) {
 	return verdictOf(&end), nil
 }
 
-func fillEvent(event *Event, native *C.cqlp_event, content []byte) {
-	event.At = uint64(native.at)
-	// in as few moves as there can be: what follows one another in the one does so in the other
-	*(*[7]byte)(unsafe.Pointer(&event.Tag)) = *(*[7]byte)(unsafe.Pointer(&native.tag))
-	event.Bytes = *(*[16]byte)(unsafe.Pointer(&native.bytes))
-	event.Number = int64(native.number)
-	*(*[4]uint32)(unsafe.Pointer(&event.Row)) = *(*[4]uint32)(unsafe.Pointer(&native.row))
-	event.Content = content
-}
-
-// The members that fillEvent moves together lie in the same order in both structs, else these arrays do not compile.
+// What C writes as a cqlp_placed is read as a placed: their members lie alike, else these arrays do not compile.
 var (
-	ofGo Event
-	ofC  C.cqlp_event
-	_    = [1]int{unsafe.Offsetof(ofGo.Field) + unsafe.Offsetof(ofC.tag) - (unsafe.Offsetof(ofGo.Tag) + unsafe.Offsetof(ofC.field)): 0}
-	_    = [1]int{unsafe.Offsetof(ofGo.Kind) + unsafe.Offsetof(ofC.tag) - (unsafe.Offsetof(ofGo.Tag) + unsafe.Offsetof(ofC.kind)): 0}
-	_    = [1]int{unsafe.Offsetof(ofGo.Opcode) + unsafe.Offsetof(ofC.tag) - (unsafe.Offsetof(ofGo.Tag) + unsafe.Offsetof(ofC.opcode)): 0}
-	_    = [1]int{unsafe.Offsetof(ofGo.Flags) + unsafe.Offsetof(ofC.tag) - (unsafe.Offsetof(ofGo.Tag) + unsafe.Offsetof(ofC.flags)): 0}
-	_    = [1]int{unsafe.Offsetof(ofGo.Mark) + unsafe.Offsetof(ofC.tag) - (unsafe.Offsetof(ofGo.Tag) + unsafe.Offsetof(ofC.mark)): 0}
-	_    = [1]int{unsafe.Offsetof(ofGo.Octets) + unsafe.Offsetof(ofC.tag) - (unsafe.Offsetof(ofGo.Tag) + unsafe.Offsetof(ofC.octets)): 0}
-	_    = [1]int{unsafe.Offsetof(ofGo.Column) + unsafe.Offsetof(ofC.row) - (unsafe.Offsetof(ofGo.Row) + unsafe.Offsetof(ofC.column)): 0}
-	_    = [1]int{unsafe.Offsetof(ofGo.Level) + unsafe.Offsetof(ofC.row) - (unsafe.Offsetof(ofGo.Row) + unsafe.Offsetof(ofC.level)): 0}
-	_    = [1]int{unsafe.Offsetof(ofGo.Extra) + unsafe.Offsetof(ofC.row) - (unsafe.Offsetof(ofGo.Row) + unsafe.Offsetof(ofC.extra)): 0}
+	ofGo placed
+	ofC  C.cqlp_placed
+	_    = [1]int{unsafe.Sizeof(ofGo) - unsafe.Sizeof(ofC): 0}
+	_    = [1]int{unsafe.Offsetof(ofGo.at) - unsafe.Offsetof(ofC.at): 0}
+	_    = [1]int{unsafe.Offsetof(ofGo.place) - unsafe.Offsetof(ofC.place): 0}
+	_    = [1]int{unsafe.Offsetof(ofGo.length) - unsafe.Offsetof(ofC.length): 0}
+	_    = [1]int{unsafe.Offsetof(ofGo.number) - unsafe.Offsetof(ofC.number): 0}
+	_    = [1]int{unsafe.Offsetof(ofGo.row) - unsafe.Offsetof(ofC.row): 0}
+	_    = [1]int{unsafe.Offsetof(ofGo.column) - unsafe.Offsetof(ofC.column): 0}
+	_    = [1]int{unsafe.Offsetof(ofGo.level) - unsafe.Offsetof(ofC.level): 0}
+	_    = [1]int{unsafe.Offsetof(ofGo.extra) - unsafe.Offsetof(ofC.extra): 0}
+	_    = [1]int{unsafe.Offsetof(ofGo.bytes) - unsafe.Offsetof(ofC.bytes): 0}
+	_    = [1]int{unsafe.Offsetof(ofGo.tag) - unsafe.Offsetof(ofC.tag): 0}
+	_    = [1]int{unsafe.Offsetof(ofGo.field) - unsafe.Offsetof(ofC.field): 0}
+	_    = [1]int{unsafe.Offsetof(ofGo.kind) - unsafe.Offsetof(ofC.kind): 0}
+	_    = [1]int{unsafe.Offsetof(ofGo.opcode) - unsafe.Offsetof(ofC.opcode): 0}
+	_    = [1]int{unsafe.Offsetof(ofGo.flags) - unsafe.Offsetof(ofC.flags): 0}
+	_    = [1]int{unsafe.Offsetof(ofGo.mark) - unsafe.Offsetof(ofC.mark): 0}
+	_    = [1]int{unsafe.Offsetof(ofGo.octets) - unsafe.Offsetof(ofC.octets): 0}
 )

@@ -6,10 +6,10 @@ import "reflect"
 // did, or why it cannot.
 func (c *cell) putItems(to any) (bool, error) {
 	e := &c.events[0]
-	if e.Tag != TagEnter {
+	if e.tag != TagEnter {
 		return false, nil
 	}
-	switch e.Kind {
+	switch e.kind {
 	case KindList, KindSet, KindTuple:
 		return c.putSlice(to)
 	case KindMap:
@@ -51,9 +51,9 @@ func (c *cell) putMap(to any) (bool, error) {
 }
 
 // ends says whether the value that began with an event ends next.
-func (c *cell) ends(begin *Event) bool {
+func (c *cell) ends(begin *placed) bool {
 	e := &c.events[0]
-	return e.Tag == TagLeave && e.Level == begin.Level
+	return e.tag == TagLeave && e.level == begin.level
 }
 
 // putSliceOf has as many items as the value says, as intoSlice.
@@ -62,13 +62,13 @@ func putSliceOf[T any](c *cell, to *[]T, item func(*cell) (T, error)) (done bool
 		return false, nil
 	}
 	typ, begin := c.typ, c.take()
-	found := make([]T, begin.Number)
+	found := make([]T, begin.number)
 	for at := 0; err == nil && !c.ends(begin); at++ {
 		if at == len(found) {
 			var none T
 			found = append(found, none)
 		}
-		c.typ = innerOf(typ, begin.Kind, at)
+		c.typ = innerOf(typ, begin.kind, at)
 		found[at], err = item(c)
 	}
 	*to = found
@@ -84,15 +84,15 @@ func putMapOf[K comparable, V any](c *cell, to *map[K]V, key func(*cell) (K, err
 		return false, nil
 	}
 	typ, begin := c.typ, c.take()
-	found := make(map[K]V, begin.Number)
+	found := make(map[K]V, begin.number)
 	*to = found
 	for !c.ends(begin) {
-		c.typ = innerOf(typ, begin.Kind, 0)
+		c.typ = innerOf(typ, begin.kind, 0)
 		k, err := key(c)
 		if err != nil {
 			return true, err
 		}
-		c.typ = innerOf(typ, begin.Kind, 1)
+		c.typ = innerOf(typ, begin.kind, 1)
 		v, err := item(c)
 		if err != nil {
 			return true, err
@@ -105,16 +105,16 @@ func putMapOf[K comparable, V any](c *cell, to *map[K]V, key func(*cell) (K, err
 
 // takeText takes the next value, a text.
 func takeText(c *cell) (string, error) {
-	if e := &c.events[0]; e.Tag == TagLeaf && isText(e.Kind) {
+	if e := &c.events[0]; e.tag == TagLeaf && isText(e.kind) {
 		c.take()
-		return string(e.Content), nil
+		return string(e.content(c.from)), nil
 	}
 	return takeOther[string](c)
 }
 
 // takeInteger takes the next value, an integer.
 func takeInteger[T int | int32 | int64](c *cell) (found T, err error) {
-	if e := &c.events[0]; e.Tag == TagLeaf {
+	if e := &c.events[0]; e.tag == TagLeaf {
 		if done, err := putInteger(e, &found); done {
 			c.take()
 			return found, err

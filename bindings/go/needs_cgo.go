@@ -5,6 +5,7 @@ package cqlp
 import (
 	"context"
 	"io"
+	"math"
 )
 
 // What the package has without cgo, by which alone libcqlp is linked: it compiles, and each call of the library answers ErrNoLibrary.
@@ -14,24 +15,14 @@ import (
 const (
 	room      = 256
 	space     = 1 << 16
-	inDecoder = -1
+	inDecoder = math.MaxUint
 )
 
 // A Decoder reads nothing: NewDecoder answers ErrNoLibrary.
 type Decoder struct {
 	next, count int
 	piece       []byte
-	// there is none
-	box *struct {
-		events [room]nativeEvent
-		places [room]int
-	}
-}
-
-type nativeEvent struct {
-	tag    uint8
-	number int64
-	length int
+	events      *[room]placed
 }
 
 // NewDecoder answers ErrNoLibrary.
@@ -40,14 +31,14 @@ func NewDecoder(Limits) (*Decoder, error) { return nil, ErrNoLibrary }
 // NewLenientDecoder answers ErrNoLibrary.
 func NewLenientDecoder(Limits) (*Decoder, error) { return nil, ErrNoLibrary }
 
-func (d *Decoder) enter() bool               { return false }
-func (d *Decoder) leave()                    {}
-func (d *Decoder) closed() bool              { return true }
-func (d *Decoder) full() bool                { return false }
-func (d *Decoder) ended(int) error           { return ErrNoLibrary }
-func (d *Decoder) take([]byte, int) int      { return 0 }
-func (d *Decoder) put(*Event)                {}
-func fillEvent(*Event, *nativeEvent, []byte) {}
+func (d *Decoder) enter() bool                      { return false }
+func (d *Decoder) leave()                           {}
+func (d *Decoder) closed() bool                     { return true }
+func (d *Decoder) full() bool                       { return false }
+func (d *Decoder) ended(int) error                  { return ErrNoLibrary }
+func (d *Decoder) take([]byte, int) int             { return 0 }
+func (d *Decoder) put(*Event)                       {}
+func (d *Decoder) appendContent([]byte, int) []byte { return nil }
 
 // Decode answers ErrNoLibrary.
 func (d *Decoder) Decode([]Event, []byte) (count, n int, err error) { return 0, 0, ErrNoLibrary }

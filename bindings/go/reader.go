@@ -177,11 +177,11 @@ func (r *Reader) endPassing() {
 // began looks at what the batch begins or ends: the event of a frame comes first in it, and its End last.
 func (r *Reader) began() (err error) {
 	d := r.decoder
-	if first := &d.box.events[0]; Tag(first.tag) == TagFrame {
+	if first := &d.events[0]; first.tag == TagFrame {
 		r.due, r.inHeader, r.typing = int64(first.number), false, nil
 		err = r.give()
 	}
-	if last := &d.box.events[d.count-1]; Tag(last.tag) == TagEnd {
+	if d.events[d.count-1].tag == TagEnd {
 		r.beginHeader()
 		r.takeBack()
 	}
@@ -191,7 +191,7 @@ func (r *Reader) began() (err error) {
 // give gives the table for the frame whose event is the first of the batch.
 func (r *Reader) give() error {
 	var frame Event
-	fillEvent(&frame, &r.decoder.box.events[0], nil)
+	r.decoder.events[0].fill(&frame, nil)
 	if r.Types == nil || frame.Opcode != OpcodeResult {
 		return nil
 	}

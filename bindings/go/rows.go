@@ -65,6 +65,9 @@ func newRowReader(reader *Reader, err error) (*RowReader, error) {
 
 // Next goes on to the next row, of this page or of the next, and says whether there is one.
 func (r *RowReader) Next() bool {
+	if r.within && !r.decoder.closed() && r.cells.lend() {
+		return true
+	}
 	if !r.enter() {
 		return false
 	}
@@ -179,19 +182,19 @@ func (r *RowReader) Columns() []Column { return r.cells.columns }
 //
 // A timestamp in an integer is milliseconds from 1970, a time nanoseconds since midnight. The error is a *ScanError, and the reading may go on.
 func (r *RowReader) Scan(to ...any) error {
-	if len(r.cells.starts) == 0 {
+	if r.cells.count == 0 {
 		return r.rowError(ErrNoRow)
 	}
 	if len(to) == 1 && r.isRecord(to[0]) {
 		return r.scanRecord(to[0])
 	}
-	if len(to) != len(r.cells.starts) {
-		return r.rowError(fmt.Errorf("Scan has %d pointers for %d columns", len(to), len(r.cells.starts)))
+	if len(to) != r.cells.count {
+		return r.rowError(fmt.Errorf("Scan has %d pointers for %d columns", len(to), r.cells.count))
 	}
 	for i, to := range to {
 		// most cells are scalars, so this is not in a function of its own
-		if e := &r.cells.events[r.cells.starts[i]]; e.Tag == TagLeaf {
-			if done, err := putLeaf(e, to); done && err == nil {
+		if e := &r.cells.row[r.cells.start(i)]; e.tag == TagLeaf {
+			if done, err := putLeaf(e, r.cells.from, to); done && err == nil {
 				continue
 			}
 		}
@@ -209,9 +212,9 @@ func (r *RowReader) Scan(to ...any) error {
 
 // rowError is an error of no column.
 func (r *RowReader) rowError(err error) *ScanError {
-	failed := &ScanError{Column: len(r.cells.starts), Err: err}
-	if len(r.cells.events) > 0 {
-		failed.Row = int(r.cells.events[0].Row)
+	failed := &ScanError{Column: r.cells.count, Err: err}
+	if len(r.cells.row) > 0 {
+		failed.Row = int(r.cells.row[0].row)
 	}
 	return failed
 }

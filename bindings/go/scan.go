@@ -72,8 +72,8 @@ func (c *cell) scan(to any) error {
 	if to == nil {
 		return nil
 	}
-	if e := &c.events[0]; e.Tag == TagLeaf {
-		if done, err := putLeaf(e, to); done {
+	if e := &c.events[0]; e.tag == TagLeaf {
+		if done, err := putLeaf(e, c.from, to); done {
 			return err
 		}
 	}
@@ -88,11 +88,11 @@ func (c *cell) scan(to any) error {
 }
 
 // putLeaf puts a scalar into what is asked for most, and says whether it did, or why it cannot.
-func putLeaf(e *Event, to any) (bool, error) {
+func putLeaf(e *placed, from []byte, to any) (bool, error) {
 	switch to := to.(type) {
 	case *string:
-		if isText(e.Kind) && to != nil {
-			*to = string(e.Content)
+		if isText(e.kind) && to != nil {
+			*to = string(e.content(from))
 			return true, nil
 		}
 	case *int:
@@ -102,18 +102,18 @@ func putLeaf(e *Event, to any) (bool, error) {
 	case *int32:
 		return putInteger(e, to)
 	case *bool:
-		if e.Kind == KindBoolean && to != nil {
-			*to = e.Number != 0
+		if e.kind == KindBoolean && to != nil {
+			*to = e.number != 0
 			return true, nil
 		}
 	case *any:
 		if to != nil {
-			*to = e.Value()
+			*to = e.value(from)
 			return true, nil
 		}
 	case *RawBytes:
-		if hasContent(e.Kind) && to != nil {
-			*to = e.Content
+		if hasContent(e.kind) && to != nil {
+			*to = e.content(from)
 			return true, nil
 		}
 	}
@@ -136,24 +136,24 @@ func isInteger(kind Kind) bool {
 	return false
 }
 
-func putInteger[T int | int32 | int64](e *Event, to *T) (bool, error) {
-	if !isInteger(e.Kind) || to == nil {
+func putInteger[T int | int32 | int64](e *placed, to *T) (bool, error) {
+	if !isInteger(e.kind) || to == nil {
 		return false, nil
 	}
-	if int64(T(e.Number)) != e.Number {
+	if int64(T(e.number)) != e.number {
 		return true, ErrRange
 	}
-	*to = T(e.Number)
+	*to = T(e.number)
 	return true, nil
 }
 
-func mismatch(e *Event, to any) error { return fmt.Errorf("%v does not go into %T", e.Kind, to) }
+func mismatch(e *placed, to any) error { return fmt.Errorf("%v does not go into %T", e.kind, to) }
 
 // into takes the next value, and puts it into v, which can be addressed.
 func (c *cell) into(v reflect.Value) error {
 	to := v.Addr().Interface()
-	if e := &c.events[0]; e.Tag == TagLeaf {
-		if done, err := putLeaf(e, to); done {
+	if e := &c.events[0]; e.tag == TagLeaf {
+		if done, err := putLeaf(e, c.from, to); done {
 			c.take()
 			return err
 		}
@@ -177,14 +177,14 @@ func (c *cell) into(v reflect.Value) error {
 		return c.intoPointer(v)
 	case c.isOdd():
 		return c.intoBytes(v)
-	case e.Tag == TagNull:
+	case e.tag == TagNull:
 		c.take()
 		if v.Kind() != reflect.Slice && v.Kind() != reflect.Map {
 			return ErrNull
 		}
 		v.Set(reflect.Zero(v.Type()))
 		return nil
-	case e.Tag == TagEnter:
+	case e.tag == TagEnter:
 		return c.intoItems(v)
 	}
 	return c.intoScalar(v)
@@ -207,7 +207,7 @@ func driverValue(value any) any {
 
 // intoPointer makes what the pointer is to point to, or nil where the value is null.
 func (c *cell) intoPointer(v reflect.Value) error {
-	if c.events[0].Tag == TagNull {
+	if c.events[0].tag == TagNull {
 		c.take()
 		v.Set(reflect.Zero(v.Type()))
 		return nil
@@ -223,14 +223,14 @@ func (c *cell) intoPointer(v reflect.Value) error {
 // isOdd says whether the next value is a content that its type does not have, as a lenient reading gives it, of a type that is no text.
 func (c *cell) isOdd() bool {
 	e, kind := &c.events[0], kindOf(c.typ)
-	return e.Tag == TagLeaf && e.Kind == KindRaw && kind != KindRaw && !isText(kind)
+	return e.tag == TagLeaf && e.kind == KindRaw && kind != KindRaw && !isText(kind)
 }
 
 // intoBytes puts such a content into bytes or a string alone: digits in it are no number, and four bytes no address.
 func (c *cell) intoBytes(v reflect.Value) error {
 	e := c.take()
 	if _, address := v.Interface().(net.IP); !address {
-		if err, ok := convertText(string(e.Content), v); ok {
+		if err, ok := convertText(string(e.content(c.from)), v); ok {
 			return err
 		}
 	}
@@ -364,13 +364,13 @@ func (c *cell) intoItems(v reflect.Value) error {
 		}
 		v.Set(found)
 		return nil
-	case v.Kind() == reflect.Slice && (begin.Kind == KindList || begin.Kind == KindSet || begin.Kind == KindTuple):
+	case v.Kind() == reflect.Slice && (begin.kind == KindList || begin.kind == KindSet || begin.kind == KindTuple):
 		return c.intoSlice(v, begin, typ)
-	case v.Kind() == reflect.Map && begin.Kind == KindMap:
+	case v.Kind() == reflect.Map && begin.kind == KindMap:
 		return c.intoMap(v, begin, typ)
-	case v.Kind() == reflect.Map && v.Type().Key().Kind() == reflect.String && begin.Kind == KindUDT && typ != nil:
+	case v.Kind() == reflect.Map && v.Type().Key().Kind() == reflect.String && begin.kind == KindUDT && typ != nil:
 		return c.intoFields(v, begin, typ)
-	case v.Kind() == reflect.Struct && begin.Kind == KindUDT && typ != nil:
+	case v.Kind() == reflect.Struct && begin.kind == KindUDT && typ != nil:
 		return c.intoStruct(v, begin, typ)
 	}
 	return mismatch(begin, v.Interface())
@@ -378,8 +378,8 @@ func (c *cell) intoItems(v reflect.Value) error {
 
 // intoSlice has as many items as the value says, since all that came are there; fields of a tuple that did not come are zero, and bytes after
 // its last field are an item more.
-func (c *cell) intoSlice(v reflect.Value, begin *Event, typ *Type) error {
-	count := int(begin.Number)
+func (c *cell) intoSlice(v reflect.Value, begin *placed, typ *Type) error {
+	count := int(begin.number)
 	v.Set(reflect.MakeSlice(v.Type(), count, count))
 	return c.each(begin, typ, func(at int) error {
 		if at == v.Len() {
@@ -389,8 +389,8 @@ func (c *cell) intoSlice(v reflect.Value, begin *Event, typ *Type) error {
 	})
 }
 
-func (c *cell) intoMap(v reflect.Value, begin *Event, typ *Type) error {
-	found := reflect.MakeMapWithSize(v.Type(), int(begin.Number))
+func (c *cell) intoMap(v reflect.Value, begin *placed, typ *Type) error {
+	found := reflect.MakeMapWithSize(v.Type(), int(begin.number))
 	key, item := reflect.New(v.Type().Key()).Elem(), reflect.New(v.Type().Elem()).Elem()
 	noItem := reflect.Zero(item.Type())
 	err := c.each(begin, typ, func(at int) error {
@@ -418,7 +418,7 @@ func (c *cell) intoKey(key reflect.Value) error {
 	return err
 }
 
-func (c *cell) intoFields(v reflect.Value, begin *Event, typ *Type) error {
+func (c *cell) intoFields(v reflect.Value, begin *placed, typ *Type) error {
 	found := reflect.MakeMap(v.Type())
 	item := reflect.New(v.Type().Elem()).Elem()
 	err := c.each(begin, typ, func(at int) error {

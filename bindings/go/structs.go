@@ -123,8 +123,8 @@ func (r *RowReader) scanRecord(to any) error {
 		}
 		v := value.FieldByIndex(field.index)
 		// a cell on the heap costs more than most scalars do, as in Scan
-		if e := &r.cells.events[r.cells.starts[i]]; e.Tag == TagLeaf {
-			if done, err := putLeaf(e, v.Addr().Interface()); done && err == nil {
+		if e := &r.cells.row[r.cells.start(i)]; e.tag == TagLeaf {
+			if done, err := putLeaf(e, r.cells.from, v.Addr().Interface()); done && err == nil {
 				continue
 			}
 		}
@@ -160,7 +160,7 @@ func (r *RowReader) findRecord(pointer reflect.Type) error {
 }
 
 // intoStruct puts the fields of a UDT into the fields of a struct with their names as tags.
-func (c *cell) intoStruct(v reflect.Value, begin *Event, typ *Type) error {
+func (c *cell) intoStruct(v reflect.Value, begin *placed, typ *Type) error {
 	m := membersOf(v.Type())
 	if m.err != nil {
 		return m.err
@@ -177,7 +177,7 @@ func (c *cell) intoStruct(v reflect.Value, begin *Event, typ *Type) error {
 		return c.intoMember(v, m, typ, at)
 	})
 	for at := came; err == nil && at < len(typ.Names); at++ {
-		null := cell{events: []Event{{Tag: TagNull}}}
+		null := cell{events: []placed{{tag: TagNull}}}
 		err = null.intoMember(v, m, typ, at)
 	}
 	return err
