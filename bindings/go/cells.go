@@ -25,6 +25,8 @@ type cells struct {
 	// how many cells the row has, and where they begin among the events, nil where each cell is one event
 	count  int
 	starts []int
+	// the cell whose items are put
+	lent cell
 	// how many events the last row had that lay in a batch
 	each int
 	// what a row is gathered in
@@ -170,6 +172,14 @@ func (c *cells) cell(at int) cell {
 		found.typ = &c.columns[at].Type
 	}
 	return found
+}
+
+// putItems puts a cell with items into what is asked for most, as cell.putItems, without one on the heap, and says whether it did. No code of a caller runs in
+// it, so none asks for another cell meanwhile.
+func (c *cells) putItems(at int, to any) bool {
+	c.lent = c.cell(at)
+	done, err := c.lent.putItems(to)
+	return done && err == nil
 }
 
 func (c *cells) values() []any {

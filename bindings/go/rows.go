@@ -197,6 +197,8 @@ func (r *RowReader) Scan(to ...any) error {
 			if done, err := putLeaf(e, r.cells.from, to); done && err == nil {
 				continue
 			}
+		} else if e.tag == TagEnter && r.cells.putItems(i, to) {
+			continue
 		}
 		cell := r.cells.cell(i)
 		if err := cell.scan(to); err != nil {

@@ -127,6 +127,8 @@ func (r *RowReader) scanRecord(to any) error {
 			if done, err := putLeaf(e, r.cells.from, v.Addr().Interface()); done && err == nil {
 				continue
 			}
+		} else if e.tag == TagEnter && r.cells.putItems(i, v.Addr().Interface()) {
+			continue
 		}
 		cell := r.cells.cell(i)
 		if err := cell.into(v); err != nil {
