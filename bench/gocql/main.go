@@ -1,5 +1,6 @@
-// Times gocql's Scan, and RowReader.Scan and ColumnReader of bindings/go, over the same page in memory, in turn: gocql KIND FILE ROUNDS. It
-// prints milliseconds of the processor for a million rows, the least of the rounds, the garbage collector's too. bench/gocql.sh builds it.
+// Times gocql's Scan, and RowReader.Scan, into variables and into a struct, and ColumnReader of bindings/go, over the same page in memory, in turn:
+// gocql KIND FILE ROUNDS. It prints milliseconds of the processor for a million rows, the least of the rounds, the garbage collector's too.
+// bench/gocql.sh builds it.
 package main
 
 import (
@@ -28,6 +29,7 @@ var readers = []reader{
 	{"gocql's Scan", readByGocql},
 	{"Scan", readByScan},
 	{"ColumnReader", readByColumns},
+	{"Scan of a struct", readByStruct},
 }
 
 func readByGocql(page []byte, to []any, row func()) (int, error) {
@@ -71,6 +73,20 @@ func readByColumns(page []byte, _ []any, _ func()) (int, error) {
 		rows += r.Rows()
 	}
 	return rows, r.Err()
+}
+
+// readByStruct has the struct instead of variables, and one for the rows of four columns alone.
+func readByStruct(page []byte, to []any, _ func()) (int, error) {
+	var found struct {
+		ID   int32  `cqlp:"column0"`
+		Big  int64  `cqlp:"column1"`
+		Name string `cqlp:"column2"`
+		Is   bool   `cqlp:"column3"`
+	}
+	if len(to) != 4 {
+		return 0, cqlp.CodeUnsupported
+	}
+	return readByScan(page, []any{&found}, func() {})
 }
 
 // variables are those that a row of a page of bench/pages.py goes into.
@@ -154,7 +170,10 @@ func main() {
 		fail(err)
 	}
 	rows := compare(kind, page)
-	least := []float64{math.Inf(1), math.Inf(1), math.Inf(1)}
+	least := make([]float64, len(readers))
+	for i := range least {
+		least[i] = math.Inf(1)
+	}
 	for n := 0; n < rounds; n++ {
 		for i, r := range readers {
 			least[i] = math.Min(least[i], timed(r, kind, page, rows))

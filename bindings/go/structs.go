@@ -6,6 +6,7 @@ import (
 	"reflect"
 	"strings"
 	"sync"
+	"unsafe"
 )
 
 // ErrNoColumn says that no column of the page, or no field of the UDT, has the name that a tag of the struct has.
@@ -19,6 +20,29 @@ type member struct {
 	path  string
 	index []int
 	typ   reflect.Type
+	// where it lies in the struct, and how it is put there
+	offset uintptr
+	form   form
+}
+
+// A form says of a field that it is of a type that is asked for most, and of which.
+type form uint8
+
+const (
+	formOther form = iota
+	formString
+	formInt
+	formInt64
+	formInt32
+	formBool
+)
+
+var forms = map[reflect.Type]form{
+	reflect.TypeOf(""):       formString,
+	reflect.TypeOf(0):        formInt,
+	reflect.TypeOf(int64(0)): formInt64,
+	reflect.TypeOf(int32(0)): formInt32,
+	reflect.TypeOf(false):    formBool,
 }
 
 // members are the fields of a struct with tags, and why it cannot be used.
@@ -36,12 +60,12 @@ func membersOf(typ reflect.Type) *members {
 		return found.(*members)
 	}
 	m := new(members)
-	m.add(typ, nil, typ.Name())
+	m.add(typ, nil, 0, typ.Name())
 	known.Store(typ, m)
 	return m
 }
 
-func (m *members) add(typ reflect.Type, index []int, path string) {
+func (m *members) add(typ reflect.Type, index []int, offset uintptr, path string) {
 	for i := 0; i < typ.NumField(); i++ {
 		field := typ.Field(i)
 		tag, is := field.Tag.Lookup("cqlp")
@@ -49,14 +73,14 @@ func (m *members) add(typ reflect.Type, index []int, path string) {
 		within := strings.TrimPrefix(path+"."+field.Name, ".") // of a struct without a name too
 		switch {
 		case !is && field.Anonymous && field.Type.Kind() == reflect.Struct:
-			m.add(field.Type, at, within)
+			m.add(field.Type, at, offset+field.Offset, within)
 		case is && tag != "-":
 			if !field.IsExported() {
 				m.err = fmt.Errorf("%s has a tag and is not exported", within)
 			} else if at, other := m.find(tag); other {
 				m.err = fmt.Errorf("%s and %s have the tag %q", m.fields[at].path, within, tag)
 			}
-			m.fields = append(m.fields, member{tag, within, at, field.Type})
+			m.fields = append(m.fields, member{tag, within, at, field.Type, offset + field.Offset, forms[field.Type]})
 		}
 	}
 }
@@ -95,11 +119,11 @@ type record struct {
 // isRecord says whether a pointer takes a row by the tags of its struct.
 func (r *RowReader) isRecord(to any) bool {
 	typ := reflect.TypeOf(to)
+	if typ != nil && typ == r.record.pointer {
+		return true
+	}
 	if typ == nil || typ.Kind() != reflect.Pointer || typ.Elem().Kind() != reflect.Struct {
 		return false
-	}
-	if typ == r.record.pointer {
-		return true
 	}
 	_, is := to.(scanner)
 	return !is && len(membersOf(typ.Elem()).fields) > 0
@@ -116,14 +140,18 @@ func (r *RowReader) scanRecord(to any) error {
 			return err
 		}
 	}
-	value := pointer.Elem()
+	value, first := pointer.Elem(), pointer.UnsafePointer()
 	for i, field := range r.record.fields {
 		if field == nil {
 			continue
 		}
+		e := &r.cells.row[r.cells.start(i)]
+		if e.tag == TagLeaf && field.put(e, r.cells.from, first) {
+			continue
+		}
 		v := value.FieldByIndex(field.index)
 		// a cell on the heap costs more than most scalars do, as in Scan
-		if e := &r.cells.row[r.cells.start(i)]; e.tag == TagLeaf {
+		if e.tag == TagLeaf {
 			if done, err := putLeaf(e, r.cells.from, v.Addr().Interface()); done && err == nil {
 				continue
 			}
@@ -136,6 +164,30 @@ func (r *RowReader) scanRecord(to any) error {
 		}
 	}
 	return nil
+}
+
+// put puts a scalar into the field of a struct that begins there, as putLeaf does, without reflection, and says whether it did. The struct is of the type of
+// which the field is a member, and the structs around the field lie in it and are no pointers. So a value of the form's type lies at the offset, and the
+// pointer that is made stays within that struct, which it keeps.
+func (m *member) put(e *placed, from []byte, first unsafe.Pointer) (done bool) {
+	var err error
+	switch at := unsafe.Add(first, m.offset); m.form {
+	case formString:
+		if done = isText(e.kind); done {
+			*(*string)(at) = string(e.content(from))
+		}
+	case formInt:
+		done, err = putInteger(e, (*int)(at))
+	case formInt64:
+		done, err = putInteger(e, (*int64)(at))
+	case formInt32:
+		done, err = putInteger(e, (*int32)(at))
+	case formBool:
+		if done = e.kind == KindBoolean; done {
+			*(*bool)(at) = e.number != 0
+		}
+	}
+	return done && err == nil
 }
 
 // findRecord finds the field of each column of the page.
