@@ -1,5 +1,7 @@
 package cqlp
 
+import "unsafe"
+
 // A placed is an Event as the library gives it, in memory of Go without pointers, so the garbage collector passes over it: of its content it has the
 // place in the bytes of which the batch, or the row, was made. Its members lie as those of cqlp_placed in box.h.
 type placed struct {
@@ -27,24 +29,29 @@ func (e *placed) content(from []byte) []byte {
 
 // fill makes an Event of it, with this content.
 func (e *placed) fill(event *Event, content []byte) {
-	*event = Event{
-		At:      e.at,
-		Tag:     e.tag,
-		Field:   e.field,
-		Kind:    e.kind,
-		Opcode:  e.opcode,
-		Flags:   e.flags,
-		Mark:    e.mark,
-		Octets:  e.octets,
-		Bytes:   e.bytes,
-		Number:  e.number,
-		Row:     e.row,
-		Column:  e.column,
-		Level:   e.level,
-		Extra:   e.extra,
-		Content: content,
-	}
+	event.At = e.at
+	// in as few moves as there can be: what follows one another in the one does so in the other
+	*(*[7]byte)(unsafe.Pointer(&event.Tag)) = *(*[7]byte)(unsafe.Pointer(&e.tag))
+	event.Bytes = e.bytes
+	event.Number = e.number
+	*(*[4]uint32)(unsafe.Pointer(&event.Row)) = *(*[4]uint32)(unsafe.Pointer(&e.row))
+	event.Content = content
 }
+
+// The members that fill moves together lie in the same order in both structs, else these arrays do not compile.
+var (
+	anEvent Event
+	aPlaced placed
+	_       = [1]int{unsafe.Offsetof(anEvent.Field) + unsafe.Offsetof(aPlaced.tag) - (unsafe.Offsetof(anEvent.Tag) + unsafe.Offsetof(aPlaced.field)): 0}
+	_       = [1]int{unsafe.Offsetof(anEvent.Kind) + unsafe.Offsetof(aPlaced.tag) - (unsafe.Offsetof(anEvent.Tag) + unsafe.Offsetof(aPlaced.kind)): 0}
+	_       = [1]int{unsafe.Offsetof(anEvent.Opcode) + unsafe.Offsetof(aPlaced.tag) - (unsafe.Offsetof(anEvent.Tag) + unsafe.Offsetof(aPlaced.opcode)): 0}
+	_       = [1]int{unsafe.Offsetof(anEvent.Flags) + unsafe.Offsetof(aPlaced.tag) - (unsafe.Offsetof(anEvent.Tag) + unsafe.Offsetof(aPlaced.flags)): 0}
+	_       = [1]int{unsafe.Offsetof(anEvent.Mark) + unsafe.Offsetof(aPlaced.tag) - (unsafe.Offsetof(anEvent.Tag) + unsafe.Offsetof(aPlaced.mark)): 0}
+	_       = [1]int{unsafe.Offsetof(anEvent.Octets) + unsafe.Offsetof(aPlaced.tag) - (unsafe.Offsetof(anEvent.Tag) + unsafe.Offsetof(aPlaced.octets)): 0}
+	_       = [1]int{unsafe.Offsetof(anEvent.Column) + unsafe.Offsetof(aPlaced.row) - (unsafe.Offsetof(anEvent.Row) + unsafe.Offsetof(aPlaced.column)): 0}
+	_       = [1]int{unsafe.Offsetof(anEvent.Level) + unsafe.Offsetof(aPlaced.row) - (unsafe.Offsetof(anEvent.Row) + unsafe.Offsetof(aPlaced.level)): 0}
+	_       = [1]int{unsafe.Offsetof(anEvent.Extra) + unsafe.Offsetof(aPlaced.row) - (unsafe.Offsetof(anEvent.Row) + unsafe.Offsetof(aPlaced.extra)): 0}
+)
 
 // value is that of a scalar, as Event.Value gives it.
 func (e *placed) value(from []byte) any {
