@@ -20,6 +20,8 @@ typedef struct {
   cqlp_skipped skipped;
   cqlp_columns columns;
   cqlp_column column;
+  // where the content lies that is in the decoder, that of the last event, if it has one
+  const uint8_t *content;
   cqlp_event events[CQLP_ROOM];
 } cqlp_box;
 
@@ -48,17 +50,27 @@ static inline cqlp_box *cqlp_box_new(const cqlp_limits *limits, int lenient, uin
   return box;
 }
 
-// Copies the events to memory of Go, into which C writes no address. The input is memory of Go too, so no address in it stays: of a content there its
-// place is kept.
+// Puts the place of each content in place of its address, since the input is memory of Go, so no address in it stays: in the events, or in a copy of
+// them in memory of Go, into which C writes no address.
 static inline void cqlp_box_place(cqlp_box *box, const uint8_t *input, size_t length, cqlp_placed *placed) {
+  int there = (void *)placed == (void *)box->events;
   for (size_t i = 0; i < box->batch.events; i++) {
     cqlp_event *event = &box->events[i];
     size_t place = (uintptr_t)event->content - (uintptr_t)input;
-    int in_decoder = event->length && place >= length;
+    if (!event->length) {
+      place = 0;
+    } else if (place >= length) {
+      box->content = event->content;
+      place = CQLP_IN_DECODER;
+    }
+    if (there) {
+      event->content = (const uint8_t *)(uintptr_t)place;
+      continue;
+    }
     memcpy(&placed[i], event, sizeof *event);
-    placed[i].place = in_decoder ? CQLP_IN_DECODER : event->length ? place : 0;
+    placed[i].place = place;
     // after the copy, which would wait for a store to what it reads
-    if (!in_decoder) event->content = NULL;
+    event->content = NULL;
   }
 }
 

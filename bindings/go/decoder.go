@@ -60,7 +60,8 @@ type Decoder struct {
 	box *C.cqlp_box
 	// twice how many calls are under way, and one more once it is closed
 	calls atomic.Int64
-	// the events of the last batch, in memory of Go, and those that were not given out: from next to count
+	// the events of the last batch, and those that were not given out: from next to count. They lie in the box, so they are read between enter and
+	// leave alone, but where rows are lent: then they lie in memory of Go
 	events      *[room]placed
 	next, count int
 	// what the contents of the last batch are lent of, but for one that lies in the decoder, which is copied
@@ -85,7 +86,7 @@ func newDecoder(limits Limits, lenient C.int) (*Decoder, error) {
 	if err := done(code); err != nil {
 		return nil, err
 	}
-	d := &Decoder{box: box, events: new([room]placed)}
+	d := &Decoder{box: box, events: (*[room]placed)(unsafe.Pointer(&box.events))}
 	runtime.SetFinalizer(d, (*Decoder).Close)
 	return d, nil
 }
@@ -218,7 +219,7 @@ func (d *Decoder) take(p []byte, most int) int {
 	if most > room {
 		most = room
 	}
-	// memory of Go without pointers, which C writes during the call alone
+	// memory without pointers, which C writes during the call alone
 	events := (*C.cqlp_placed)(unsafe.Pointer(d.events))
 	if most == 0 {
 		C.cqlp_box_fill(d.box, first, C.size_t(len(p)), events)
@@ -246,7 +247,7 @@ func (d *Decoder) put(event *Event) {
 func (d *Decoder) appendContent(to []byte, at int) []byte {
 	e := &d.events[at]
 	if e.place == inDecoder {
-		return append(to, unsafe.Slice((*byte)(unsafe.Pointer(d.box.events[at].content)), int(e.length))...)
+		return append(to, unsafe.Slice((*byte)(unsafe.Pointer(d.box.content)), int(e.length))...)
 	}
 	return append(to, e.content(d.piece)...)
 }

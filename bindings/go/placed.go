@@ -2,7 +2,7 @@ package cqlp
 
 import "unsafe"
 
-// A placed is an Event as the library gives it, in memory of Go without pointers, so the garbage collector passes over it: of its content it has the
+// A placed is an Event as the library gives it, without pointers, so the garbage collector passes over it: of its content it has the
 // place in the bytes of which the batch, or the row, was made. Its members lie as those of cqlp_placed in box.h.
 type placed struct {
 	at                 uint64

@@ -58,6 +58,7 @@ func newRowReader(reader *Reader, err error) (*RowReader, error) {
 	if err != nil {
 		return nil, err
 	}
+	reader.decoder.events = new([room]placed)
 	r := &RowReader{Reader: *reader}
 	r.parser.reader, r.cells.parser = &r.Reader, &r.parser
 	return r, nil
