@@ -58,8 +58,8 @@ func (c *cells) next() bool {
 	return c.lend() || c.lendItems() || c.gather()
 }
 
-// lend takes a row of scalars that lies in the batch: the event that is as far on as there are columns is one of the last column. The memory of such a row is Go's,
-// so this needs no enter.
+// lend takes a row of scalars that lies in the batch: the last of as many events as there are columns is then of the last column. The memory of
+// such a row is Go's, so this needs no enter.
 func (c *cells) lend() bool {
 	d := c.parser.reader.decoder
 	end := d.next + c.width
