@@ -15,7 +15,7 @@ ghost use Rattle.cqlp_cell.specs.declared.open_values.Order.TheVariants as order
 ghost use Rattle.cqlp_decode.specs.Sinks.{Gets, Fails};
 ghost use Rattle.cqlp_decode.specs.Progress.{IsLawful, nodes_of, parts_state, state_with};
 
-use crate::leaf::{hand_kind, hand_leaf};
+use crate::leaf::{OTHERS, hand_kind, hand_leaf};
 use crate::list_loop::is_counted;
 use crate::page::{CellCursor, page_table};
 use crate::page_loop::{Handed, front_of};
@@ -273,7 +273,7 @@ impl StreamProgress {
             let Some(due) = here.due_item(table) else {
                 break 'scalars;
             };
-            match hand_leaf(&limits, due_in(rest, due), page, rest, sink) {
+            match hand_leaf::<OTHERS, S>(&limits, due_in(rest, due), page, rest, sink) {
                 Handed::Left => break 'scalars,
                 Handed::Taken(taken) => {
                     here.pass(taken, table);

@@ -18,7 +18,7 @@ ghost use Rattle.cqlp_decode.specs.Sinks.{Gets, Fails};
 ghost use Rattle.cqlp_decode.specs.Progress.{IsLawful, nodes_of, parts_state, state_of, state_with};
 
 use crate::item_loop::{ItemsHanded, due_in, hand_part, stop_at};
-use crate::leaf::hand_leaf;
+use crate::leaf::{OTHERS, TEXT_KEYS, VALUES_OF_TEXTS, hand_leaf};
 use crate::page::{CellCursor, page_table};
 use crate::page_loop::{Handed, front_of};
 use crate::parts::Parts;
@@ -89,7 +89,7 @@ pub(crate) fn is_counted(kind: Kind) -> bool
 /// Hands the key of a map that is next to the sink, if it is a scalar of this kind and lies in these bytes, which reach no
 /// further than the map, and goes on after it.
 #[inline(always)]
-fn hand_key<S: Sink>(
+fn hand_key<const LOOP: usize, S: Sink>(
     limits: &Asked,
     kind: Kind,
     here: &mut Level,
@@ -105,7 +105,7 @@ fn hand_key<S: Sink>(
         result sink.old sink.new }
 {
     let due = due_in(rest, here.due_in_pair(kind));
-    match hand_leaf(limits, due, page, rest, sink) {
+    match hand_leaf::<LOOP, S>(limits, due, page, rest, sink) {
         Handed::Left => Handed::Left,
         Handed::Taken(taken) => {
             here.pass_key(taken);
@@ -120,7 +120,7 @@ fn hand_key<S: Sink>(
 
 /// The same of the value that a key has.
 #[inline(always)]
-fn hand_value<S: Sink>(
+fn hand_value<const LOOP: usize, S: Sink>(
     limits: &Asked,
     kind: Kind,
     here: &mut Level,
@@ -135,7 +135,7 @@ fn hand_value<S: Sink>(
         result sink.old sink.new }
 {
     let due = due_in(rest, here.due_in_pair(kind));
-    match hand_leaf(limits, due, page, rest, sink) {
+    match hand_leaf::<LOOP, S>(limits, due, page, rest, sink) {
         Handed::Left => Handed::Left,
         Handed::Taken(taken) => {
             here.pass_value(taken);
@@ -220,14 +220,16 @@ impl StreamProgress {
                 key: Kind::Varchar,
                 value,
             };
-            return self.hand_pairs(parts, kinds, level, page, input, sink);
+            return self.hand_pairs::<TEXT_KEYS, VALUES_OF_TEXTS, S, A>(
+                parts, kinds, level, page, input, sink,
+            );
         }
-        self.hand_pairs(parts, kinds, level, page, input, sink)
+        self.hand_pairs::<OTHERS, OTHERS, S, A>(parts, kinds, level, page, input, sink)
     }
 
     /// The same of a map, whose keys and values are of these kinds.
     #[inline(always)]
-    fn hand_pairs<S: Sink, A: Allocator>(
+    fn hand_pairs<const KEYS: usize, const VALUES: usize, S: Sink, A: Allocator>(
         &self,
         parts: &Parts<A>,
         kinds: PairKinds,
@@ -252,12 +254,12 @@ impl StreamProgress {
             if !here.has_key() {
                 break 'pairs;
             }
-            match hand_key(&limits, kinds.key, &mut here, page, rest, sink) {
+            match hand_key::<KEYS, S>(&limits, kinds.key, &mut here, page, rest, sink) {
                 Handed::Left => break 'pairs,
                 Handed::Taken(taken) => rest = &rest[taken..],
                 Handed::Fault(taken) => return stop_at(level, here, &rest[taken..], within, true),
             }
-            match hand_value(&limits, kinds.value, &mut here, page, rest, sink) {
+            match hand_value::<VALUES, S>(&limits, kinds.value, &mut here, page, rest, sink) {
                 Handed::Left => break 'pairs,
                 Handed::Taken(taken) => rest = &rest[taken..],
                 Handed::Fault(taken) => return stop_at(level, here, &rest[taken..], within, true),

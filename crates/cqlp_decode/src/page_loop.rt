@@ -15,7 +15,7 @@ ghost use Rattle.cqlp_grammar.specs.Events.{event_of};
 ghost use Rattle.cqlp_decode.specs.Sinks.{Gets, Fails};
 ghost use Rattle.cqlp_decode.specs.Progress.{IsLawful, state_with};
 
-use crate::leaf::hand_leaf;
+use crate::leaf::{OTHERS, TYPED_CELLS, hand_leaf};
 use crate::page::{CellCursor, Columns, page_table};
 use crate::parts::Parts;
 use crate::progress::{StreamProgress, StreamStage};
@@ -79,16 +79,18 @@ pub fn take_cells<S: Sink, A: Allocator>(
     // where the limit on cells admits each content of a fixed length compares none with it.
     match due.columns {
         Columns::Typed | Columns::Given if progress.limits.cell >= LONGEST_FIXED => {
-            take_due(progress, parts, due, input, sink)
+            take_due::<TYPED_CELLS, S, A>(progress, parts, due, input, sink)
         }
-        Columns::Typed | Columns::Given => take_due(progress, parts, due, input, sink),
-        Columns::Raw(_) => take_due(progress, parts, due, input, sink),
+        Columns::Typed | Columns::Given => {
+            take_due::<OTHERS, S, A>(progress, parts, due, input, sink)
+        }
+        Columns::Raw(_) => take_due::<OTHERS, S, A>(progress, parts, due, input, sink),
     }
 }
 
 /// The same where this cell is due, nothing was refused and no content is held.
 #[inline(always)]
-fn take_due<S: Sink, A: Allocator>(
+fn take_due<const LOOP: usize, S: Sink, A: Allocator>(
     progress: &mut StreamProgress,
     parts: &Parts<A>,
     due: CellCursor,
@@ -114,7 +116,7 @@ fn take_due<S: Sink, A: Allocator>(
     'cells: loop {
         let head = page.head(table);
         let at = start + used as u64;
-        match hand_cell(&limits, head.kind, page, at, &within[used..], sink) {
+        match hand_cell::<LOOP, S>(&limits, head.kind, page, at, &within[used..], sink) {
             Handed::Left => break 'cells,
             Handed::Taken(taken) => {
                 used += taken;
@@ -152,7 +154,7 @@ pub(crate) fn front_of(input: &[u8], room: u64) -> &[u8]
 /// Hands the cell at the front of the input, which begins at an offset, to the sink, if the loop takes it. Most cells are
 /// scalars, so these are asked for first.
 #[inline(always)]
-fn hand_cell<S: Sink>(
+fn hand_cell<const LOOP: usize, S: Sink>(
     limits: &Asked,
     kind: Kind,
     page: CellCursor,
@@ -174,7 +176,7 @@ fn hand_cell<S: Sink>(
         room,
         level,
     };
-    match hand_leaf(limits, due, page, input, sink) {
+    match hand_leaf::<LOOP, S>(limits, due, page, input, sink) {
         Handed::Left => hand_bare(room, page, at, input, sink),
         Handed::Taken(used) => Handed::Taken(used),
         Handed::Fault(used) => Handed::Fault(used),

@@ -36,7 +36,7 @@ pub fn scalar(kind: Kind, bytes: &[u8]) -> Result<Scalar<'_>, Reason>
 }
 
 /// Whether a content of a scalar kind may have this many bytes, which are not none.
-#[inline(always)]
+#[inline]
 pub fn allows(kind: Kind, len: usize) -> bool
     ensures { result ≡ allows_size kind len }
 {
@@ -81,7 +81,7 @@ pub fn fault(kind: Kind) -> Reason
 
 /// The scalar that these bytes are.
 #[tactic(auto, using(crate::proofs::Texts::ascii_known, crate::proofs::Texts::varchar_known), unfolding(crate::specs::Scalars::scalar_of))]
-#[inline(always)]
+#[inline]
 pub fn make_scalar(kind: Kind, bytes: &[u8]) -> Scalar<'_>
     requires size { allows_size kind (length bytes.now) ≡ true }
     requires accepted { is_some (scalar_of kind bytes.now) ≡ true }

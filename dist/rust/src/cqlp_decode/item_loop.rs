@@ -6,7 +6,7 @@
 //! what the reading of the bytes says, and to be where that does; and it reads by the functions by which `next`
 //! does, so that no rule is here alone.
 
-use crate::cqlp_decode::leaf::{hand_kind, hand_leaf};
+use crate::cqlp_decode::leaf::{OTHERS, hand_kind, hand_leaf};
 use crate::cqlp_decode::list_loop::is_counted;
 use crate::cqlp_decode::page::{CellCursor, page_table};
 use crate::cqlp_decode::page_loop::{Handed, front_of};
@@ -219,7 +219,7 @@ impl StreamProgress {
             let Some(due) = here.due_item(table) else {
                 break 'scalars;
             };
-            match hand_leaf(&limits, due_in(rest, due), page, rest, sink) {
+            match hand_leaf::<OTHERS, S>(&limits, due_in(rest, due), page, rest, sink) {
                 Handed::Left => break 'scalars,
                 Handed::Taken(taken) => {
                     here.pass(taken, table);

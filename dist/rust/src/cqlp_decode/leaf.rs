@@ -12,9 +12,22 @@ use crate::cqlp_kind::Kind;
 use crate::cqlp_kind::content::read_array;
 use crate::cqlp_note::Asked;
 
-/// Hands the item at the front of the input to the sink, if it is a scalar and all its bytes are there.
+/// The loop over the cells of a page whose types are known and whose limit on cells admits each content of a fixed length.
+pub const TYPED_CELLS: usize = 0;
+
+/// The keys of a map that are texts.
+pub const TEXT_KEYS: usize = 1;
+
+/// The values of a map whose keys are texts.
+pub const VALUES_OF_TEXTS: usize = 2;
+
+/// All other loops.
+pub const OTHERS: usize = 3;
+
+/// Hands the item at the front of the input to the sink, if it is a scalar and all its bytes are there. A busy loop has a
+/// function of its own: the compiler of the proved program inlines a long one only where it is called from one place.
 #[inline(always)]
-pub fn hand_leaf<S: Sink>(
+pub fn hand_leaf<const LOOP: usize, S: Sink>(
     limits: &Asked,
     due: DueItem,
     page: CellCursor,
@@ -82,7 +95,7 @@ pub fn hand_kind<S: Sink>(
 ///
 /// Of a kind whose contents all have one length that length is compared once, and is known in what comes after: then
 /// `front_scalar`, which alone decides, has nothing left to ask of it.
-#[inline(always)]
+#[inline]
 fn may_begin(kind: Kind, room: u64, input: &[u8]) -> bool {
     let Some(width) = width_of(kind) else {
         return true;
@@ -93,7 +106,7 @@ fn may_begin(kind: Kind, room: u64, input: &[u8]) -> bool {
 }
 
 /// How many bytes a content of this kind has, where each has as many.
-#[inline(always)]
+#[inline]
 fn width_of(kind: Kind) -> Option<u32> {
     match kind {
         Kind::Bigint | Kind::Counter | Kind::Double | Kind::Time | Kind::Timestamp => Some(8),

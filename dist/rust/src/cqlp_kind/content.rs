@@ -27,7 +27,7 @@ pub(crate) fn scalar(kind: Kind, bytes: &[u8]) -> Result<Scalar<'_>, Reason> {
 }
 
 /// Whether a content of a scalar kind may have this many bytes, which are not none.
-#[inline(always)]
+#[inline]
 pub fn allows(kind: Kind, len: usize) -> bool {
     match kind {
         Kind::Bigint | Kind::Counter | Kind::Timestamp | Kind::Time | Kind::Double => len == 8,
@@ -62,7 +62,7 @@ pub fn fault(kind: Kind) -> Reason {
 }
 
 /// The scalar that these bytes are.
-#[inline(always)]
+#[inline]
 pub(crate) fn make_scalar(kind: Kind, bytes: &[u8]) -> Scalar<'_> {
     match kind {
         Kind::Custom => Scalar::Custom(bytes),
