@@ -3,19 +3,19 @@
 //! of a driver is what its sockets saw. CQLP_STREAMS is how many changed captures there are, 3,000 where it is not set.
 #![forbid(unsafe_code)]
 
-mod common;
 #[allow(dead_code)]
 #[path = "../examples/streams.rs"]
 mod example;
 
-use common::{Numbers, count};
+use crate::common::{Numbers, count};
 use cqlp::Global;
 use cqlp::capture::{
     CaptureEnd, CaptureEvent, CaptureLimits, CaptureReader, CaptureStep, Control, Distance, Endpoint, GapCause, LinkType, PacketHead,
     Segment, Stream, StreamSegment, StreamStep, distance_to, read_segment,
 };
 use example::{Told, follow};
-use std::collections::{BTreeMap, HashMap};
+use std::collections::HashMap;
+use std::hash::{BuildHasherDefault, Hasher};
 use std::io::Write;
 
 fn capture(name: &str) -> Vec<u8> {
@@ -111,6 +111,24 @@ fn a_lost_segment() {
 
 // ---- changed captures
 
+/// The hash of a place, which takes a tenth of the time of std's.
+#[derive(Default)]
+struct OfPlace(u64);
+
+impl Hasher for OfPlace {
+    fn finish(&self) -> u64 {
+        self.0
+    }
+
+    fn write(&mut self, _: &[u8]) {
+        unreachable!()
+    }
+
+    fn write_u64(&mut self, place: u64) {
+        self.0 = place.wrapping_mul(0x9e37_79b9_7f4a_7c15);
+    }
+}
+
 /// A direction by its bytes alone: at each place the byte of the first segment that carried it, or none where its packet was cut, and its time.
 #[derive(Default)]
 struct Reference {
@@ -118,7 +136,7 @@ struct Reference {
     first: Option<u32>,
     /// How many bytes and places are past.
     position: u64,
-    came: BTreeMap<u64, (Option<u8>, Option<u64>)>,
+    came: HashMap<u64, (Option<u8>, Option<u64>), BuildHasherDefault<OfPlace>>,
 }
 
 impl Reference {
@@ -149,7 +167,10 @@ impl Reference {
         assert!(length > 0);
         let end = self.position + length;
         match cause {
-            GapCause::Lost => assert_eq!(self.came.range(self.position..end).next(), None, "a gap where a byte came"),
+            GapCause::Lost => {
+                let came = self.came.keys().any(|place| (self.position..end).contains(place));
+                assert!(!came, "a gap where a byte came");
+            }
             GapCause::Snapped => {
                 for place in self.position..end {
                     assert_eq!(self.came.remove(&place), Some((None, time)), "at {place}");

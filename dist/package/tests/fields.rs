@@ -1,12 +1,9 @@
 //! Fields, type options and cells, call by call: what a decoder says of each input, how many bytes of it are used, and how many bytes are held then.
 #![forbid(unsafe_code)]
 
-#[path = "common/digits.rs"]
-mod digits;
-
+use crate::digits::bytes_of;
 use Said::{Got, More, Refused};
 use cqlp::{Address, BoundValue, Decoder, Event, Field, Global, Kind, Limits, Reason, Refusal, Scalar, Step};
-use digits::bytes_of;
 
 const LIMITS: Limits = Limits { text: 40, cell: 40, entries: 8, depth: 3, types: true, parts: false };
 

@@ -3,10 +3,8 @@
 //! are, 3,000 where it is not set.
 #![forbid(unsafe_code)]
 
-mod common;
-
-use common::cores::{Caller, Responder};
-use common::{Numbers, count, limits, mutated, said, streams};
+use crate::common::cores::{Caller, Responder};
+use crate::common::{Numbers, count, limits, mutated, said, streams};
 use cqlp::text::{Ending, ending_line, render_events, render_rows};
 use cqlp::{Decoder, Event, Global, Header, Limits, OfStd, Outcome, Sink, SinkFault, run};
 

@@ -2,9 +2,7 @@
 //! kind of scalar, and of pages whose bytes were changed at random. CQLP_STREAMS is how many pages there are, 3,000 where it is not set.
 #![forbid(unsafe_code)]
 
-mod common;
-
-use common::{Numbers, count};
+use crate::common::{Numbers, count};
 use cqlp::frame::{Frame, Message, Metadata, Rows, Spec, TypeTree, encode};
 use cqlp::rows::{FromCell, FromRow, LentCell, Mismatch, PageReader, RowError};
 use cqlp::{Decoder, Event, Global, Kind, Limits, OfStd, Refusal, Step};
@@ -246,8 +244,8 @@ fn each_kind_of_scalar() {
 fn changed_pages() {
     let mut numbers = Numbers::new();
     let mut readers = readers(Limits::DEFAULT);
-    let mut refused = 0;
-    for _ in 0..count() {
+    let (mut refused, count) = (0, count().min(10_000));
+    for _ in 0..count {
         let from = numbers.one_of(&[0, 7, 13]);
         let bare = numbers.below(6) == 0;
         let (mut page, begin) = generated(&mut numbers, from, bare);
@@ -266,5 +264,5 @@ fn changed_pages() {
         refused += u64::from(by_events(Limits::DEFAULT, None, &page).is_some_and(|(_, refusal)| refusal.is_some()));
         compare(&mut readers, Limits::DEFAULT, from, &page);
     }
-    assert!(refused > count() / 5, "{refused}");
+    assert!(refused > count / 5, "{refused}");
 }

@@ -2,9 +2,7 @@
 //! values, and by `encode_rows`, of what is what `encode` writes of all of them.
 #![forbid(unsafe_code)]
 
-mod common;
-
-use common::Numbers;
+use crate::common::Numbers;
 use cqlp::cells::{
     CellBuilder, CellError, CellLimits, HeadError, PageCellError, PageCells, PageProgress, ends_cell, event_size, page_head,
 };

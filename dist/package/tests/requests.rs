@@ -1,9 +1,7 @@
 //! A client with as many requests as there are stream ids.
 #![forbid(unsafe_code)]
 
-mod common;
-
-use common::Numbers;
+use crate::common::Numbers;
 use cqlp::session::{BeginError, Client, Reply, RequestKind, Ticket};
 use cqlp::{Global, Header, Opcode};
 

@@ -3,9 +3,7 @@
 //! it in a table that is made of them. CQLP_STREAMS is how many values there are, 3,000 where it is not set.
 #![forbid(unsafe_code)]
 
-mod common;
-
-use common::{Numbers, count};
+use crate::common::{Numbers, count};
 use cqlp::frame::{
     Frame, Message, Metadata, PageWriter, ReadError, Rows, Spec, TypeTree, Value, encode, fits, read_value, value_size, write_value,
 };

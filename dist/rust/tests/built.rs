@@ -2,9 +2,7 @@
 //! CQLP_STREAMS is how many changed streams there are, 3,000 where it is not set.
 #![forbid(unsafe_code)]
 
-mod common;
-
-use common::{Numbers, count, limits, mutated, streams};
+use crate::common::{Numbers, count, limits, mutated, streams};
 use cqlp::frame::{BuildError, BuildLimits, BuiltFrame, Composer, Frame, FrameBuilder, encode};
 use cqlp::{Decoder, Event, Field, Global, Header, Kind, Limits, OfStd, Opcode, Scalar, Step};
 

@@ -3,10 +3,9 @@
 //! proportion to the bytes that came; what writes asks for nothing, or for the bytes that it writes; and whatever is dropped gives all back. Each test has a
 //! stack of 256 KiB, so that no length decides how deep a call goes.
 
-mod common;
-
-use common::digits::bytes_of;
-use common::streams;
+use crate::common::streams;
+use crate::digits::bytes_of;
+use crate::memory;
 use cqlp::capture::{CaptureLimits, CaptureReader, CaptureStep, Control, Stream, StreamSegment, StreamStep};
 use cqlp::cells::{CellBuilder, CellLimits};
 use cqlp::columns::{BatchLimits, Columns, PageColumns};
@@ -18,11 +17,8 @@ use cqlp::watch::{Watch, WatchRoom, WatchStep};
 use cqlp::{
     Decoder, Event, Fed, Global, Header, IoFault, Kind, Limits, Opcode, Sink, SinkFault, SkippingDecoder, Source, Step, Target, run,
 };
-use std::alloc::{GlobalAlloc, Layout, System};
-use std::cell::Cell;
-use std::ptr::null_mut;
 
-/// What a thread asked for: how often, how many bytes in all, how many are held, and how many requests are granted.
+/// What a thread asked for: how often, how many bytes in all, and how many are held.
 #[derive(Clone, Copy, Debug, PartialEq, Eq)]
 struct Asked {
     requests: u64,
@@ -32,51 +28,20 @@ struct Asked {
 
 const NOTHING: Asked = Asked { requests: 0, bytes: 0, held: 0 };
 
-thread_local! {
-    static ASKED: Cell<Asked> = const { Cell::new(NOTHING) };
-    static GRANTED: Cell<u64> = const { Cell::new(u64::MAX) };
-}
-
-struct Counted;
-
-impl Counted {
-    /// Counts a request for this many bytes, in place of so many; whether it is granted.
-    fn ask(&self, bytes: usize, before: usize) -> bool {
-        let asked = ASKED.get();
-        let is_granted = asked.requests < GRANTED.get();
-        let held = if is_granted { asked.held + bytes as i64 - before as i64 } else { asked.held };
-        ASKED.set(Asked { requests: asked.requests + 1, bytes: asked.bytes + bytes as u64, held });
-        is_granted
+impl From<memory::Asked> for Asked {
+    fn from(asked: memory::Asked) -> Asked {
+        Asked { requests: asked.requests, bytes: asked.bytes, held: asked.held }
     }
 }
-
-// SAFETY: each call is the system's; a request that is refused answers null, and changes nothing.
-unsafe impl GlobalAlloc for Counted {
-    unsafe fn alloc(&self, layout: Layout) -> *mut u8 {
-        if self.ask(layout.size(), 0) { unsafe { System.alloc(layout) } } else { null_mut() }
-    }
-
-    unsafe fn dealloc(&self, block: *mut u8, layout: Layout) {
-        let asked = ASKED.get();
-        ASKED.set(Asked { held: asked.held - layout.size() as i64, ..asked });
-        unsafe { System.dealloc(block, layout) }
-    }
-
-    unsafe fn realloc(&self, block: *mut u8, layout: Layout, size: usize) -> *mut u8 {
-        if self.ask(size, layout.size()) { unsafe { System.realloc(block, layout, size) } } else { null_mut() }
-    }
-}
-
-#[global_allocator]
-static HEAP: Counted = Counted;
 
 /// What a call asks for, of which so many requests are granted, and what it leaves held.
 fn asked(granted: u64, call: impl FnOnce()) -> Asked {
-    ASKED.set(NOTHING);
-    GRANTED.set(granted);
-    call();
-    GRANTED.set(u64::MAX);
-    ASKED.get()
+    memory::refusing(granted.saturating_add(1), u64::MAX, call).1.into()
+}
+
+/// What was asked for until now.
+fn asked_so_far() -> Asked {
+    memory::asked().into()
 }
 
 /// The same with ample memory.
@@ -415,7 +380,7 @@ fn observers() {
                 for time in 0..1_000 {
                     let WatchStep { used, .. } = watch.take(responses, rest, Some(time), time == 0, WatchRoom::ONE).unwrap();
                     let most = 2_048 * (watch.waiting() as i64 + 2);
-                    assert!(ASKED.get().held <= most, "{stream:x?} {:?}", ASKED.get());
+                    assert!(asked_so_far().held <= most, "{stream:x?} {:?}", asked_so_far());
                     rest = &rest[used..];
                 }
                 let _ = watch.gap(responses, u64::MAX >> 1, None, WatchRoom::ONE).unwrap();
@@ -461,7 +426,7 @@ fn captures() {
         let mut made = NOTHING;
         let whole = asked_amply(|| {
             let mut reader = CaptureReader::new(Global, CaptureLimits::DEFAULT).unwrap();
-            made = ASKED.get();
+            made = asked_so_far();
             for piece in file.chunks(5) {
                 let mut used = 0;
                 while let CaptureStep::Event { used: taken, .. } = reader.next(&piece[used..]) {
@@ -482,7 +447,7 @@ fn columns() {
         let whole = asked_amply(|| {
             let columns = Columns::new(Global, limits, &[Kind::Int, Kind::Varchar]).unwrap();
             let mut decoder = Decoder::new(Global, SMALL).unwrap();
-            made = ASKED.get();
+            made = asked_so_far();
             let mut reader = PageColumns::new(columns, Nowhere);
             for piece in stream.chunks(50) {
                 reader.read(&mut decoder, piece);

@@ -1,6 +1,7 @@
 //! Memory that is refused to the calls that take it from the process: each request in turn, and each with all after it. What a call
 //! made until then is given back.
 
+use crate::memory::refusing;
 use cqlp::capture::{CaptureEnd, CaptureLimits, CaptureReader, CaptureStep, Control, NewReaderError, Stream, StreamSegment, StreamStep};
 use cqlp::cells::{CellError, CellLimits, PageCellError, PageCells, PageProgress};
 use cqlp::columns::{BatchLimits, Columns, MakeError, TakeError};
@@ -14,63 +15,7 @@ use cqlp::{
     Decoder, Event, Field, Global, Header, Kind, Limits, NewError, NoMemory, Node, Opcode, Scalar, Step, TableError, TypeTable, table_of,
     table_of_specs,
 };
-use std::alloc::{GlobalAlloc, Layout, System};
-use std::cell::{Cell, RefCell};
-use std::ptr::null_mut;
-
-/// The requests of a thread: how many there were, which are refused, and how many blocks are held.
-#[derive(Clone, Copy)]
-struct Ration {
-    requests: u64,
-    first: u64,
-    last: u64,
-    held: i64,
-}
-
-thread_local! {
-    static RATION: Cell<Ration> = const { Cell::new(Ration { requests: 0, first: 0, last: 0, held: 0 }) };
-}
-
-/// Counts one more request; whether it is granted.
-fn is_granted() -> bool {
-    let Ration { requests, first, last, held } = RATION.get();
-    RATION.set(Ration { requests: requests + 1, first, last, held });
-    requests + 1 < first || last < requests + 1
-}
-
-/// Counts the blocks that are held.
-fn count(more: i64) {
-    let ration = RATION.get();
-    RATION.set(Ration { held: ration.held + more, ..ration });
-}
-
-struct Rationed;
-
-// SAFETY: each call is the system's; a request that is refused answers null, and changes nothing.
-unsafe impl GlobalAlloc for Rationed {
-    unsafe fn alloc(&self, layout: Layout) -> *mut u8 {
-        if !is_granted() {
-            return null_mut();
-        }
-        count(1);
-        unsafe { System.alloc(layout) }
-    }
-
-    unsafe fn dealloc(&self, block: *mut u8, layout: Layout) {
-        count(-1);
-        unsafe { System.dealloc(block, layout) }
-    }
-
-    unsafe fn realloc(&self, block: *mut u8, layout: Layout, size: usize) -> *mut u8 {
-        if !is_granted() {
-            return null_mut();
-        }
-        unsafe { System.realloc(block, layout, size) }
-    }
-}
-
-#[global_allocator]
-static HEAP: Rationed = Rationed;
+use std::cell::RefCell;
 
 /// What a call said of memory.
 #[derive(Clone, Copy, Debug, PartialEq, Eq)]
@@ -82,10 +27,8 @@ enum Answer {
 
 /// What a call answers where these requests are refused, how many it makes, and how many blocks it leaves.
 fn refused(first: u64, last: u64, call: impl Fn() -> Answer) -> (Answer, u64, i64) {
-    RATION.set(Ration { requests: 0, first, last, held: 0 });
-    let answer = call();
-    let Ration { requests, held, .. } = RATION.replace(Ration { requests: 0, first: 0, last: 0, held: 0 });
-    (answer, requests, held)
+    let (answer, asked) = refusing(first, last, call);
+    (answer, asked.requests, asked.blocks)
 }
 
 /// A call finds memory exactly where none of its requests is refused, of which it makes at least this many. How many it makes.

@@ -1,9 +1,7 @@
 //! Each worked stream says its events and its verdict: whole, byte by byte, and in two pieces cut at each place.
 #![forbid(unsafe_code)]
 
-mod common;
-
-use common::{said, streams};
+use crate::common::{said, streams};
 
 #[test]
 fn whole() {

@@ -3,9 +3,7 @@
 //! room for each number of bytes and events, and fed in pieces, to a sink that fails at each event too; the text of its pages too.
 #![forbid(unsafe_code)]
 
-mod common;
-
-use common::{Stream, said, streams};
+use crate::common::{Stream, said, streams};
 use cqlp::text::{Ending, ending_line, event_line, render_events, render_rows};
 use cqlp::{Decoder, Event, Fed, Finish, Global, IoFault, OfStd, Outcome, Sink, SinkFault, Source, Target, run};
 

@@ -1,6 +1,6 @@
 //! The line of a request with its reply.
 
-use crate::observer::Seen;
+use super::observer::Seen;
 use cqlp::text::opcode_name;
 use cqlp::watch::{Extent, Message, Paired};
 use cqlp::{Opcode, result_kind};

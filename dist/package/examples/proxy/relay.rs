@@ -1,6 +1,6 @@
 //! The bytes of a connection, passed on in both directions.
 
-use crate::observer::{Observer, Way};
+use super::observer::{Observer, Way};
 use std::io::{self, ErrorKind, Read, Write};
 use std::net::{Shutdown, TcpStream};
 use std::sync::Mutex;

@@ -1,7 +1,7 @@
 //! The connections of a listener, each in a thread of its own.
 
-use crate::connection::{Connection, Result};
-use crate::node::Node;
+use super::connection::{Connection, Result};
+use super::node::Node;
 use std::io::{self, Read};
 use std::net::{Shutdown, TcpListener, TcpStream};
 use std::sync::Arc;

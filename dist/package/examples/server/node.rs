@@ -1,10 +1,10 @@
 //! What a request is answered. All connections share the node, which never changes.
 
-use crate::page::{Columns, ONE_TABLE, Page, described, full_name};
-use crate::problem::Problem;
-use crate::statement::{Select, Statement};
-use crate::table::Table;
-use crate::{sample, system};
+use super::page::{Columns, ONE_TABLE, Page, described, full_name};
+use super::problem::Problem;
+use super::statement::{Select, Statement};
+use super::table::Table;
+use super::{sample, system};
 use cqlp::frame::{Frame, Message, Prepared, QueryParams};
 use cqlp::memory::AllocError;
 

@@ -1,8 +1,8 @@
 //! Pages of rows.
 
-use crate::problem::Problem;
-use crate::statement::Select;
-use crate::table::{Column, Table};
+use super::problem::Problem;
+use super::statement::Select;
+use super::table::{Column, Table};
 use cqlp::Target;
 use cqlp::frame::{Frame, Message, Metadata, PageError, PageWriter, QueryParams, Rows, Spec, Value, value_size};
 use cqlp::memory::{AllocError, String};

@@ -1,6 +1,6 @@
 //! The table `ks.t`.
 
-use crate::table::{Table, Type, text};
+use super::table::{Table, Type, text};
 use cqlp::Kind;
 use cqlp::frame::Value;
 use cqlp::memory::AllocError;

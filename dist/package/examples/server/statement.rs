@@ -1,7 +1,7 @@
 //! Statements of CQL, as far as this server knows them.
 
-use crate::problem::Problem;
-use crate::table::{Column, Table};
+use super::problem::Problem;
+use super::table::{Column, Table};
 use cqlp::frame::{OwnedBound, Value};
 
 /// How many columns a `SELECT` may name.

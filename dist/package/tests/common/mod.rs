@@ -3,11 +3,10 @@
 #![allow(dead_code)]
 
 pub mod cores;
-pub mod digits;
 
+use crate::digits::bytes_of;
 use cqlp::text::{Ending, ending_line, event_line};
 use cqlp::{Decoder, Finish, Global, Limits, OfStd, Step};
-use digits::bytes_of;
 
 /// A stream of streams.txt, and what is said of it.
 pub struct Stream {

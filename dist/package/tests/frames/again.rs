@@ -1,7 +1,7 @@
 //! Frames, pages and cells that are built and written again, of the events of their bytes.
 
-use crate::words::all_of;
-use crate::written::{LIMITS, tell_events, write};
+use super::words::all_of;
+use super::written::{LIMITS, tell_events, write};
 use cqlp::cells::{CellBuilder, CellLimits, PageCellError, PageCells, PageProgress, ends_cell, event_size, page_head};
 use cqlp::frame::{BuildError, BuildLimits, Frame, FrameBuilder, Message, TypeTree};
 use cqlp::{Event, Global, Limits, Scalar, SinkFault};

@@ -1,9 +1,9 @@
 //! Values that are bound to a query, and cells of a page whose columns are not told.
 
-use crate::again::frame_again;
-use crate::sockets::Narrow;
-use crate::words::all_of;
-use crate::written::{LIMITS, digits_line, write};
+use super::again::frame_again;
+use super::sockets::Narrow;
+use super::words::all_of;
+use super::written::{LIMITS, digits_line, write};
 use cqlp::Global;
 use cqlp::frame::{
     Frame, Message, Metadata, OwnedBound, PageError, PageWriter, QueryParams, Rows, TypeTree, Value, bind_value, raw_value, read_value,

@@ -1,8 +1,8 @@
 //! Pages that are written cell by cell, and of cells that are lent twice.
 
-use crate::sockets::{Stops, is_told};
-use crate::words::{FromWords, Words, all_of};
-use crate::written::digits_line;
+use super::sockets::{Stops, is_told};
+use super::words::{FromWords, Words, all_of};
+use super::written::digits_line;
 use cqlp::OfSocket;
 use cqlp::frame::{Frame, PageError, PageWriter, TypeTree, Value, encode_rows};
 use cqlp::memory::Vec;

@@ -1,7 +1,7 @@
 //! Frames, and the bodies of requests.
 
-use crate::responses::{error, event, result_of};
-use crate::words::{FromWords, Words};
+use super::responses::{error, event, result_of};
+use super::words::{FromWords, Words};
 use cqlp::frame::{BatchEntry, Frame, Message, OwnedBound, QueryParams};
 
 impl FromWords for Frame {

@@ -1,6 +1,6 @@
 //! The bodies of errors, events and results.
 
-use crate::words::{FromWords, Words};
+use super::words::{FromWords, Words};
 use cqlp::Address;
 use cqlp::frame::{ErrorExtra, Message, Metadata, Prepared, Rows, SchemaChange, SchemaOptions, ServerEvent, Spec};
 

@@ -1,6 +1,6 @@
 //! Types and values.
 
-use crate::words::{FromWords, Words};
+use super::words::{FromWords, Words};
 use cqlp::frame::{Atom, TypeTree, Value};
 use cqlp::memory::Box;
 use cqlp::{Global, Kind};

@@ -18,15 +18,13 @@
 //!
 //! No call of a decoder that was made is granted any memory.
 
-#[path = "../common/digits.rs"]
-mod digits;
 mod gifts;
 mod memory;
 mod reading;
 mod script;
 mod skips;
 
-use digits::bytes_of;
+use crate::digits::bytes_of;
 use reading::Reading;
 use script::{Script, Shows};
 

@@ -1,8 +1,8 @@
 //! What a decoder says that passes over frames.
 
-use crate::gifts;
-use crate::memory::{amply, without_memory};
-use crate::script::Script;
+use super::gifts;
+use super::memory::{amply, without_memory};
+use super::script::Script;
 use cqlp::{Event, Fed, Finish, Global, NotSkippable, Sink, SinkFault, SkippingDecoder};
 use std::fmt::Write;
 

@@ -1,6 +1,6 @@
 //! What the two sides of a connection say, as their bytes pass.
 
-use crate::line::Line;
+use super::line::Line;
 use cqlp::memory::AllocError;
 use cqlp::watch::{Facts, FactsReader, Frame, Heads, Heard, Message, Paired, Pairing};
 use cqlp::{Global, Header, Opcode};

@@ -1,7 +1,7 @@
 //! A connection: the requests of a client come in, and their replies go out.
 
-use crate::node::{Node, Reply};
-use crate::problem::Problem;
+use super::node::{Node, Reply};
+use super::problem::Problem;
 use cqlp::frame::{BuildLimits, Frame, FrameBuilder, encode};
 use cqlp::session::Server;
 use cqlp::{Decoder, Global, Header, Limits, OfStd, Step};

@@ -1,7 +1,7 @@
 //! The tables of the system, which drivers read when they connect: of this node, of other nodes, which there are none, and of the schema, of
 //! which nothing is said.
 
-use crate::table::{Table, Type, text};
+use super::table::{Table, Type, text};
 use cqlp::Kind;
 use cqlp::frame::{Atom, Value};
 use cqlp::memory::AllocError;

@@ -1,6 +1,6 @@
 //! Tables in memory.
 
-use crate::problem::Problem;
+use super::problem::Problem;
 use cqlp::frame::{Atom, Spec, TypeTree, Value, read_value};
 use cqlp::memory::{AllocError, Box};
 use cqlp::{Global, Kind, Limits};

@@ -1,7 +1,7 @@
 //! Targets that take little, and sockets that do not wait.
 
-use crate::words::bytes_of;
-use crate::written::digits_line;
+use super::words::bytes_of;
+use super::written::digits_line;
 use cqlp::{Cause, IoFault, OfSocket, Source, Target};
 use std::io::{self, ErrorKind, Read, Write};
 

@@ -1,8 +1,8 @@
 //! What is written of a frame, and what is read back.
 
-use crate::again::{cells_again, frame_again};
-use crate::sockets::{Narrow, Stops, is_told};
-use crate::words::all_of;
+use super::again::{cells_again, frame_again};
+use super::sockets::{Narrow, Stops, is_told};
+use super::words::all_of;
 use cqlp::frame::{AppendError, EncodeError, Frame, append, encode, encode_from};
 use cqlp::memory;
 use cqlp::text::{Ending, ending_line, render_events};

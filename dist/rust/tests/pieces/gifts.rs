@@ -1,7 +1,7 @@
 //! Tables of types that are given to a decoder, and taken back.
 
+use super::memory::without_memory;
 use crate::digits::bytes_of;
-use crate::memory::without_memory;
 use cqlp::{Decoder, Global, Limits, Step, TypeTable};
 
 /// The limits within which the metadata of a table that is given is read.

@@ -1,8 +1,8 @@
 //! What a decoder says of pieces, and in other pieces.
 
-use crate::gifts;
-use crate::memory::without_memory;
-use crate::script::{Script, Shows};
+use super::gifts;
+use super::memory::without_memory;
+use super::script::{Script, Shows};
 use cqlp::{Decoder, Event, Global, Step};
 use std::fmt::Write;
 
