@@ -34,3 +34,26 @@ extern "C" fn main(_: i32, _: *const *const u8) -> i32 {
     libc::keep_broken_pipes();
     cqlp::main(HostRuntime).status()
 }
+
+/// The tests, which look for overflow, are the program itself where CQLP_IS_PROGRAM is set: it begins and ends as `main` does, without Rust's own start.
+#[cfg(test)]
+mod as_program {
+    use crate::kit_host::prelude::HostRuntime;
+    use crate::kit_host::rt::Status;
+
+    unsafe extern "C" {
+        safe fn exit(status: i32) -> !;
+    }
+
+    extern "C" fn begin() {
+        if std::env::var_os("CQLP_IS_PROGRAM").is_some() {
+            crate::libc::keep_broken_pipes();
+            exit(crate::cqlp::main(HostRuntime).status());
+        }
+    }
+
+    // SAFETY: what lies there is called once, with the words and the environment, after what std has there for them.
+    #[used]
+    #[unsafe(link_section = ".init_array")]
+    static BEGIN: extern "C" fn() = begin;
+}
