@@ -16,3 +16,7 @@ pub mod Putting
 pub mod OneAnswerOfBatches
 pub mod Written
 pub mod Composed
+pub mod Allowed
+pub mod Lent
+pub mod OneEvent
+pub mod WholeCells

@@ -1,3 +1,4 @@
+pub mod Contents
 pub mod Composing
 pub mod Laws
 pub mod Places
@@ -6,4 +7,5 @@ pub mod Measures
 pub mod PageLaws
 pub mod Begun
 pub mod Put
+pub mod Single
 pub mod BatchLaws

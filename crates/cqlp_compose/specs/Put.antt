@@ -5,6 +5,7 @@ use Rattle.cqlp_message.specs.declared.frame.Frame.{Frame}
 use Rattle.cqlp_build_cells.specs.declared.builder.CellLimits.{CellLimits}
 use Rattle.cqlp_build_cells.specs.Building.{ends_cell}
 use Rattle.cqlp_compose.specs.declared.place.PageProgress.{PageProgress}
+use Rattle.cqlp_compose.specs.declared.cells.PageCells.{PageCells}
 use Rattle.cqlp_compose.specs.declared.cells.WrittenCells.{WrittenCells}
 use Rattle.cqlp_compose.specs.Cells.{CellsState, Gives, Takes, begun, state}
 use Rattle.cqlp_compose.specs.declared.put.PutCells.{PutCells}
@@ -18,8 +19,13 @@ pub record PutterState : Type 0 where
   pub place : PageProgress
   pub cells : CellsState
 
+-- what came of the next cell, of which nothing came where there is none
+abbrev pub under_way : Frame → PageProgress → CellLimits → Option PageCells → CellsState
+under_way f p limits None = begun f p limits
+under_way f p limits (Some cells) = state cells
+
 abbrev pub putter : PutCells → PutterState
-putter c = record { frame = c.frame.now; limits = c.limits; place = c.place; cells = state c.cells }
+putter c = record { frame = c.frame.now; limits = c.limits; place = c.place; cells = under_way c.frame.now c.place c.limits c.cells }
 
 -- no event came after this place
 abbrev pub fresh_putter : Frame → PageProgress → CellLimits → PutterState

@@ -1,24 +1,30 @@
 //! Cells of a page, put into rooms of the caller's.
 
-ghost use Rattle.std.specs.Prelude.{◌≡◌, ◌++◌, ◌≤◌, ℕ, List, false, true, drop, length};
+ghost use Rattle.std.specs.Prelude.{◌≡◌, ◌++◌, ◌+◌, ◌/◌, ◌%◌, ◌<◌, ◌^◌, ℕ, List, IfSome, IsTrue, None, drop, false, length, true};
 ghost use Rattle.cqlp_grammar.specs.Events.{event_of};
-ghost use Rattle.cqlp_compose.specs.Put.{Ended, Puts, fresh, fresh_putter, putter};
+ghost use Rattle.cqlp_compose.specs.Cells.{state};
+ghost use Rattle.cqlp_build_cells.specs.Building.{ends_cell};
+ghost use Rattle.cqlp_compose.specs.Put.{Ended, GoesOn, Puts, fresh_putter, putter, within};
+ghost use Rattle.cqlp_compose.specs.Single.{IsNextCell, PutsCell, cell_bytes};
 
 use crate::cells::PageCells;
-use crate::error::PutError;
+use crate::column::column_type;
+use crate::error::{PageCellError, PutError};
 use crate::page::OpenPage;
 use crate::place::PageProgress;
+use crate::single::{WholeCell, whole_cell};
 use cqlp_build_cells::{CellLimits, ends_cell};
 use cqlp_grammar::Event;
 use cqlp_message::Frame;
+use cqlp_note::Header;
 use std::alloc::Global;
 
 /// Puts the next cells of a page into rooms of the caller's, each as soon as its last event has come. Section 4.2.5.2 of
 /// `native_protocol_v4.spec`.
 ///
-/// It takes what a decoder says of the cells, in that order, each event with its row and its column, and holds the events of one cell. The
-/// page stays where it is: the caller makes it go on to [`PutCells::place`]. After an error the cell under way is forgotten, and nothing of
-/// it was put, so its events may be given again, from the first on, as where there was no room.
+/// It takes what a decoder says of the cells, in that order, each event with its row and its column, and holds the events of one cell that has
+/// several. A cell of one event is put as it comes. The page stays where it is: the caller makes it go on to [`PutCells::place`]. After an error the
+/// cell under way is forgotten, and nothing of it was put, so its events may be given again, from the first on, as where there was no room.
 #[derive(Drop)]
 pub struct PutCells<'a> {
     alloc: Global,
@@ -26,8 +32,8 @@ pub struct PutCells<'a> {
     limits: CellLimits,
     /// Behind the last cell that was put.
     place: PageProgress,
-    /// The cell under way.
-    cells: PageCells<'a>,
+    /// The cell under way, where events of it came.
+    cells: Option<PageCells<'a>>,
 }
 
 impl<'a> PutCells<'a> {
@@ -36,13 +42,12 @@ impl<'a> PutCells<'a> {
     pub fn new(alloc: Global, page: &'a OpenPage, limits: CellLimits) -> PutCells<'a>
         ensures { putter result ≡ fresh_putter page.now.frame page.now.place limits }
     {
-        let frame = &page.frame;
         PutCells {
             alloc,
-            frame,
+            frame: &page.frame,
             limits,
             place: page.place,
-            cells: PageCells::new(alloc, frame, page.place, limits),
+            cells: None,
         }
     }
 
@@ -61,37 +66,120 @@ impl<'a> PutCells<'a> {
     ///
     /// [`PutError::Cell`] with what [`PageCells::take`] says, and [`PutError::NoRoom`] where the cell that ends has more bytes than the room.
     /// The cell is forgotten then, and the room is as it was.
-    #[tactic(auto, using(crate::proofs::Putting::goes_on, crate::proofs::Putting::refused, crate::proofs::Putting::is_whole, crate::proofs::Putting::put_end))]
+    #[tactic(auto, using(crate::proofs::WholeCells::next_short))]
+    #[inline]
     pub fn take(&mut self, event: &Event<'_>, room: &mut [u8]) -> Result<Option<usize>, PutError>
         ensures { (bytes : List ℕ) × Puts (putter self.old) (event_of event.now) (length room.old) result bytes (putter self.new)
             × (room.new ≡ bytes ++ drop (length bytes) room.old) }
     {
-        if let Err(why) = self.cells.take(event) {
-            self.begin();
-            return Err(PutError::Cell(why));
+        if self.cells.is_none() {
+            if let Some(cell) = self.next_cell(event) {
+                return self.put_cell(cell, room);
+            }
         }
+        self.take_next(event, room)
+    }
+
+    /// The next cell, where this event is all of it, and is seen to be a value of its column's type.
+    #[inline]
+    fn next_cell<'e>(&self, event: &Event<'e>) -> Option<WholeCell<'e>>
+        ensures { IfSome result (λ cell. IsNextCell self.now.frame.now self.now.place self.now.limits (event_of event.now) (cell_bytes cell)) }
+    {
+        let (row, column) = match *event {
+            Event::Leaf { row, column, .. }
+            | Event::Null { row, column, .. }
+            | Event::Empty { row, column, .. } => (row, column),
+            _ => return None,
+        };
+        if self.place.cells >= self.frame.cells_wanted() || self.limits.events == 0 {
+            return None;
+        }
+        if !is_at(self.place.cells, self.frame.columns(), row, column) {
+            return None;
+        }
+        whole_cell(
+            event,
+            column_type(self.frame, column as usize),
+            self.limits.bytes,
+        )
+    }
+
+    /// Puts the next cell, of which nothing has come yet.
+    #[inline]
+    fn put_cell(&mut self, cell: WholeCell<'_>, room: &mut [u8]) -> Result<Option<usize>, PutError>
+        requires fresh { self.old.cells ≡ None }
+        requires bounded { self.old.place.cells + 1 < 2 ^ 64 }
+        requires short { length (cell_bytes cell) < 2 ^ 32 + 4 }
+        ensures { (bytes : List ℕ) × PutsCell (putter self.old) (cell_bytes cell.entry) (length room.old) result bytes (putter self.new)
+            × (room.new ≡ bytes ++ drop (length bytes) room.old) }
+    {
+        let size = cell.size();
+        if size > self.place.free.min(Header::LONGEST_BODY) as usize {
+            return Err(PutError::Cell(PageCellError::PastLength));
+        }
+        if size > room.len() {
+            return Err(PutError::NoRoom(size));
+        }
+        cell.put(room);
+        self.place = PageProgress {
+            cells: self.place.cells + 1,
+            free: self.place.free - size as u32,
+        };
+        Ok(Some(size))
+    }
+
+    /// Takes the next event of a cell that may have several.
+    fn take_next(&mut self, event: &Event<'_>, room: &mut [u8]) -> Result<Option<usize>, PutError>
+        ensures { (bytes : List ℕ) × Puts (putter self.old) (event_of event.now) (length room.old) result bytes (putter self.new)
+            × (room.new ≡ bytes ++ drop (length bytes) room.old) }
+    {
+        let mut cells = self.take_cells();
+        match cells.take(event) {
+            Ok(()) => self.pass_event(cells, event, room),
+            Err(why) => Err(PutError::Cell(why)),
+        }
+    }
+
+    /// The cell under way, of which no event may have come; none is under way then.
+    fn take_cells(&mut self) -> PageCells<'a>
+        ensures is { state result ≡ (putter self.old).cells }
+        ensures none { self.new ≡ record self.old { cells = None } }
+    {
+        match self.cells.take() {
+            Some(cells) => cells,
+            None => PageCells::new(self.alloc, self.frame, self.place, self.limits),
+        }
+    }
+
+    /// An event of the cell was taken: the cell ends after it, or goes on.
+    #[tactic(auto, using(crate::proofs::Putting::ends_true, crate::proofs::Putting::ends_false))]
+    fn pass_event(
+        &mut self,
+        cells: PageCells<'a>,
+        event: &Event<'_>,
+        room: &mut [u8],
+    ) -> Result<Option<usize>, PutError>
+        requires none { self.old.cells ≡ None }
+        requires whole { ends_cell (event_of event.now) ≡ true → (state cells).cut ≡ false }
+        ensures { (bytes : List ℕ) × GoesOn (ends_cell (event_of event.now)) (within (putter self.old) (state cells.entry)) (length room.old) result bytes
+            (putter self.new) × (room.new ≡ bytes ++ drop (length bytes) room.old) }
+    {
         if ends_cell(event) {
-            self.put(room)
+            self.put(cells, room)
         } else {
+            self.cells = Some(cells);
             Ok(None)
         }
     }
 
-    /// Begins a cell after those that were put, and forgets the one under way.
-    fn begin(&mut self)
-        ensures { putter self.new ≡ fresh (putter self.old) self.old.place }
-    {
-        self.cells = PageCells::new(self.alloc, self.frame, self.place, self.limits);
-    }
-
     /// Puts the cell that was taken whole.
-    fn put(&mut self, room: &mut [u8]) -> Result<Option<usize>, PutError>
-        requires { (putter self.old).cells.cut ≡ false }
-        ensures { (bytes : List ℕ) × Ended (putter self.old) (length room.old) result bytes (putter self.new)
+    fn put(&mut self, cells: PageCells<'a>, room: &mut [u8]) -> Result<Option<usize>, PutError>
+        requires none { self.old.cells ≡ None }
+        requires whole { (state cells).cut ≡ false }
+        ensures { (bytes : List ℕ) × Ended (within (putter self.old) (state cells.entry)) (length room.old) result bytes (putter self.new)
             × (room.new ≡ bytes ++ drop (length bytes) room.old) }
     {
-        let next = PageCells::new(self.alloc, self.frame, self.place, self.limits);
-        let Ok(written) = std::mem::replace(&mut self.cells, next).finish() else {
+        let Ok(written) = cells.finish() else {
             unreachable!()
         };
         let len = written.bytes.len();
@@ -100,7 +188,14 @@ impl<'a> PutCells<'a> {
         }
         room[..len].copy_from_slice(&written.bytes);
         self.place = written.place;
-        self.begin();
         Ok(Some(len))
     }
+}
+
+/// Whether this is the row and the column of the cell before which so many have come, of a page of so many columns.
+#[inline]
+fn is_at(cells: u64, columns: u32, row: u32, column: u32) -> bool
+    ensures { IsTrue result → (row ≡ cells / columns) × (column ≡ cells % columns) }
+{
+    column < columns && u64::from(row) * u64::from(columns) + u64::from(column) == cells
 }

@@ -12,6 +12,8 @@ mod memory;
 mod page;
 mod place;
 mod put;
+mod scalar;
+mod single;
 
 pub use cells::{PageCells, WrittenCells};
 pub use composer::Composer;

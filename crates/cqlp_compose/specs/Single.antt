@@ -1,0 +1,73 @@
+-- Cells that have one event (section 6 of native_protocol_v4.spec).
+use Rattle.std.specs.Prelude.{◌≡◌, ℕ, ◌+◌, ◌-◌, ◌<◌, ◌≤◌, ◌^◌, ◌++◌, true, false, List, [], ◌∷◌, length, Option, Some, None, Result, Ok, Err}
+use Rattle.std.specs.Int.{w32, to_be_bytes}
+use Rattle.cqlp_kind.specs.declared.kind.Kind.{Kind}
+use Rattle.cqlp_kind.specs.Scalars.{ScalarValue, IsInRange, content_of, kind_of, scalar_fits}
+use Rattle.cqlp_kind.specs.Types.{NoMore, Type_and}
+use Rattle.cqlp_kind.specs.CellStep.{CellEvent, Leaf, Null, Empty, Enter, Leave, Part}
+use Rattle.cqlp_type.specs.declared.tree.TypeTree.{TypeTree}
+use Rattle.cqlp_grammar.specs.Events.{Event, Cell_at}
+use Rattle.cqlp_compose.specs.Contents.{content_in}
+use Rattle.cqlp_value.specs.Owned.{cell_type}
+use Rattle.cqlp_message.specs.declared.frame.Frame.{Frame}
+use Rattle.cqlp_build_cells.specs.Building.{is_formed}
+use Rattle.cqlp_build_cells.specs.declared.builder.CellLimits.{CellLimits}
+use Rattle.cqlp_compose.specs.declared.place.PageProgress.{PageProgress}
+use Rattle.cqlp_compose.specs.declared.single.WholeCell.{WholeCell}
+use Rattle.cqlp_compose.specs.declared.single.WholeCell.TheVariants as cell
+use Rattle.cqlp_compose.specs.declared.error.PageCellError.TheVariants as cell_error
+use Rattle.cqlp_compose.specs.declared.error.PutError.TheVariants as error
+use Rattle.cqlp_compose.specs.Cells.{begun, is_next, next_column, room}
+use Rattle.cqlp_compose.specs.Places.{described_type}
+use Rattle.cqlp_compose.specs.Put.{Answer, PutterState, fresh}
+
+-- the bytes of a content with its length
+abbrev pub with_length : List ℕ → List ℕ
+with_length c = to_be_bytes w32 (length c) ++ c
+
+abbrev pub null_bytes : List ℕ
+null_bytes = to_be_bytes w32 (2 ^ 32 - 1)
+
+abbrev pub cell_bytes : WholeCell → List ℕ
+cell_bytes cell.Null = null_bytes
+cell_bytes (cell.Of c) = with_length (content_in c)
+
+-- The type is of this kind, and has no inner types.
+abbrev pub IsPlain : Option TypeTree → Kind → Type 0
+IsPlain t k = (cell_type t ≡ Type_and k NoMore NoMore) × (is_formed t ≡ true)
+
+-- The bytes are those of a cell of this kind that holds this scalar, whose content has at most so many bytes.
+abbrev pub IsScalarCell : (most : ℕ) → Kind → ScalarValue → (bytes : List ℕ) → Type 0
+IsScalarCell most k v bytes =
+    (kind_of v ≡ k) × (scalar_fits v ≡ true) × IsInRange v × (length (content_of v) ≤ most) × (most < 2 ^ 32) × (bytes ≡ with_length (content_of v))
+
+-- The bytes are those of the cell of this kind with this one event.
+abbrev pub IsCellOfKind : (most : ℕ) → Kind → CellEvent → (bytes : List ℕ) → Type 0
+IsCellOfKind most k (Leaf level v) bytes = (level ≡ 0) × IsScalarCell most k v bytes
+IsCellOfKind most k (Null level) bytes = (level ≡ 0) × (bytes ≡ null_bytes)
+IsCellOfKind most k (Empty level) bytes = (level ≡ 0) × (bytes ≡ with_length [])
+IsCellOfKind most k e bytes = ⊥
+
+-- The bytes are those of the cell of this type with this one event.
+abbrev pub IsWholeCell : (most : ℕ) → Option TypeTree → Event → (bytes : List ℕ) → Type 0
+IsWholeCell most t (Cell_at row column e) bytes = (k : Kind) × IsPlain t k × IsCellOfKind most k e bytes
+IsWholeCell most t e bytes = ⊥
+
+-- The event is that of the next cell of a page, which has these bytes; and fewer cells have come than can be counted.
+abbrev pub IsNextCell : Frame → PageProgress → CellLimits → Event → (bytes : List ℕ) → Type 0
+IsNextCell f p limits e bytes =
+    (is_next (begun f p limits) e ≡ true) × (0 < limits.events) × (p.cells + 1 < 2 ^ 64)
+    × IsWholeCell limits.bytes (described_type f (next_column (begun f p limits))) e bytes
+
+-- the place after a cell of n bytes
+abbrev pub after_cell : PageProgress → (n : ℕ) → PageProgress
+after_cell p n = record { cells = p.cells + 1; free = p.free - n }
+
+-- The next cell, which has these bytes, is put into a room of n, or there is none for it, or the cells would be longer than was said.
+abbrev pub PutsCell : PutterState → (cell : List ℕ) → (n : ℕ) → Answer → (bytes : List ℕ) → PutterState → Type 0
+PutsCell old cell n (Ok (Some len)) bytes new =
+    (bytes ≡ cell) × (len ≡ length cell) × (length cell ≤ n) × (length cell ≤ room old.cells) × (new ≡ fresh old (after_cell old.place (length cell)))
+PutsCell old cell n (Err (error.NoRoom len)) bytes new =
+    (bytes ≡ []) × (len ≡ length cell) × (n < length cell) × (length cell ≤ room old.cells) × (new ≡ old)
+PutsCell old cell n (Err (error.Cell cell_error.PastLength)) bytes new = (bytes ≡ []) × (room old.cells < length cell) × (new ≡ old)
+PutsCell old cell n r bytes new = ⊥

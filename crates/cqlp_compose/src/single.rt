@@ -1,0 +1,156 @@
+//! Cells of one event.
+
+ghost use Rattle.std.specs.Prelude.{◌≡◌, ◌+◌, ◌++◌, ◌≤◌, ◌<◌, ◌^◌, IfSome, drop, length, option_map};
+ghost use Rattle.cqlp_grammar.specs.Events.{event_of};
+ghost use Rattle.cqlp_kind.specs.Contents.{value_of};
+ghost use Rattle.cqlp_compose.specs.Contents.{content_in};
+ghost use Rattle.cqlp_compose.specs.Single.{IsPlain, IsScalarCell, IsWholeCell, cell_bytes, with_length};
+
+use crate::scalar::{Content, content_as};
+use cqlp_grammar::Event;
+use cqlp_kind::{Kind, Scalar};
+use cqlp_type::TypeTree;
+
+/// A cell of one event, as it is written.
+#[derive(Clone, Copy)]
+pub enum WholeCell<'a> {
+    /// A length of -1.
+    Null,
+    /// A content, after its length.
+    Of(Content<'a>),
+}
+
+/// The kind of a type without inner types, or of a cell without a type.
+#[inline(always)]
+fn plain_kind(of: Option<&TypeTree>) -> Option<Kind>
+    ensures { IfSome result (λ kind. IsPlain (option_map (λ t. t.now) of.entry) kind) }
+{
+    match of {
+        None => Some(Kind::Raw),
+        Some(TypeTree::Plain(kind)) => { if kind.is_plain() { Some(*kind) } else { None } }
+        Some(TypeTree::Custom(_)) => Some(Kind::Custom),
+        Some(_) => None,
+    }
+}
+
+/// The cell of this type whose one event this is, with at most `most` bytes of texts and other contents that have no length of their own. None where
+/// it has more events or bytes, and where the event is of no value of the type; also of a null or an empty value of a type with inner types.
+#[inline(always)]
+pub fn whole_cell<'a>(event: &Event<'a>, of: Option<&TypeTree>, most: u32) -> Option<WholeCell<'a>>
+    ensures { IfSome result (λ cell. IsWholeCell most (option_map (λ t. t.now) of.entry) (event_of event.now) (cell_bytes cell)) }
+{
+    let kind = plain_kind(of)?;
+    match event {
+        Event::Leaf {
+            level: 0,
+            scalar,
+            ..
+        } => scalar_cell(scalar, kind, most),
+        Event::Null { level: 0, .. } => Some(WholeCell::Null),
+        Event::Empty { level: 0, .. } => Some(WholeCell::Of(Content::Lent(&[]))),
+        _ => None,
+    }
+}
+
+/// The cell of this kind that holds this scalar.
+#[inline(always)]
+fn scalar_cell<'a>(scalar: &Scalar<'a>, kind: Kind, most: u32) -> Option<WholeCell<'a>>
+    ensures { IfSome result (λ cell. IsScalarCell most kind (value_of scalar.now) (cell_bytes cell)) }
+{
+    let content = content_as(scalar, kind)?;
+    if content_len(content) > most as usize {
+        return None;
+    }
+    Some(WholeCell::Of(content))
+}
+
+/// How many bytes a content has.
+#[inline(always)]
+fn content_len(content: Content<'_>) -> usize
+    ensures { result ≡ length (content_in content.entry) }
+{
+    match content {
+        Content::One(_) => 1,
+        Content::Two(_) => 2,
+        Content::Four(_) => 4,
+        Content::Eight(_) => 8,
+        Content::Sixteen(_) => 16,
+        Content::Lent(bytes) => bytes.len(),
+        Content::Decimal(_, unscaled) => 4 + unscaled.len(),
+    }
+}
+
+impl<'a> WholeCell<'a> {
+    /// How many bytes it has.
+    #[inline(always)]
+    pub fn size(self) -> usize
+        requires { length (cell_bytes self) < 2 ^ 63 }
+        ensures { result ≡ length (cell_bytes self.entry) }
+    {
+        match self {
+            WholeCell::Null => 4,
+            WholeCell::Of(content) => 4 + content_len(content),
+        }
+    }
+
+    /// Puts its bytes at the front of a room.
+    #[inline(always)]
+    pub fn put(self, room: &mut [u8])
+        requires short { length (cell_bytes self) < 2 ^ 32 + 4 }
+        requires room { length (cell_bytes self) ≤ length room.old }
+        ensures { room.new ≡ cell_bytes self.entry ++ drop (length (cell_bytes self.entry)) room.old }
+    {
+        match self {
+            WholeCell::Null => put_front(room, &[0xFF; 4]),
+            WholeCell::Of(content) => match content {
+                Content::One(bytes) => put_content(room, &bytes),
+                Content::Two(bytes) => put_content(room, &bytes),
+                Content::Four(bytes) => put_content(room, &bytes),
+                Content::Eight(bytes) => put_content(room, &bytes),
+                Content::Sixteen(bytes) => put_content(room, &bytes),
+                Content::Lent(bytes) => put_content(room, bytes),
+                Content::Decimal(scale, unscaled) => put_decimal(room, scale, unscaled),
+            },
+        }
+    }
+}
+
+/// Puts bytes at the front of a room.
+#[inline(always)]
+fn put_front(room: &mut [u8], bytes: &[u8])
+    requires { length bytes.now ≤ length room.old }
+    ensures { room.new ≡ bytes.now ++ drop (length bytes.now) room.old }
+{
+    room[..bytes.len()].copy_from_slice(bytes);
+}
+
+/// Puts bytes at the front of a room, and others after them.
+#[inline(always)]
+fn put_both(room: &mut [u8], first: &[u8], others: &[u8])
+    requires { length (first.now ++ others.now) ≤ length room.old }
+    ensures { room.new ≡ (first.now ++ others.now) ++ drop (length (first.now ++ others.now)) room.old }
+{
+    room[first.len()..first.len() + others.len()].copy_from_slice(others);
+    put_front(room, first);
+}
+
+/// Puts a content after its length at the front of a room.
+#[inline(always)]
+fn put_content(room: &mut [u8], content: &[u8])
+    requires short { length content.now < 2 ^ 32 }
+    requires room { length (with_length content.now) ≤ length room.old }
+    ensures { room.new ≡ with_length content.now ++ drop (length (with_length content.now)) room.old }
+{
+    put_both(room, &(content.len() as u32).to_be_bytes(), content);
+}
+
+/// The same of the content of a decimal.
+fn put_decimal(room: &mut [u8], scale: [u8; 4], unscaled: &[u8])
+    requires short { length (scale ++ unscaled.now) < 2 ^ 32 }
+    requires room { length (with_length (scale ++ unscaled.now)) ≤ length room.old }
+    ensures { room.new ≡ with_length (scale ++ unscaled.now) ++ drop (length (with_length (scale ++ unscaled.now))) room.old }
+{
+    let [a, b, c, d] = ((4 + unscaled.len()) as u32).to_be_bytes();
+    let [e, f, g, h] = scale;
+    put_both(room, &[a, b, c, d, e, f, g, h], unscaled);
+}
