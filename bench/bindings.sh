@@ -1,8 +1,8 @@
 #!/usr/bin/env bash
-# Times the library from C, an event a call and in batches, and the wrappers for Rust and Python on pages that pages.py makes, beside
-# `cqlp check` of the same file, a plain loop in Python over the same cells and the compiled reader of the released driver for Python, where it is
-# there; and the wrapper for Go, where it is there, on its own pages of pages.py, and beside gocql. As `bindings.sh --wrappers` it times those for Python
-# and Go alone, over the library that bindings/build made last.
+# Times the library from C, an event a call and in batches, and writing the page again from its events (put.c); and the wrappers for Rust and Python on
+# pages that pages.py makes, beside `cqlp check` of the same file, a plain loop in Python over the same cells and the compiled reader of the released driver
+# for Python, where it is there; and the wrapper for Go, where it is there, on its own pages of pages.py, and beside gocql. As `bindings.sh --wrappers` it
+# times those for Python and Go alone, over the library that bindings/build made last.
 set -eu
 
 here=$(dirname -- "$(readlink -f -- "${BASH_SOURCE[0]}")")
@@ -25,12 +25,14 @@ beneath() {
         "$CARGO_TARGET_DIR/release/examples/count" "$room/page"
     done
     python3 "$here/batches.py" "$here/../crates/cqlp/out/cqlp" "$room/speed" "$room/page"
+    "$room/put" 5 <"$room/page"
 }
 
 if [ -z "$wrappers" ]; then
     "$bindings/build"
     "$here/../prove"
     cc -O2 -I"$here/../include" -o "$room/speed" "$bindings/c/speed.c" "$bindings/out/libcqlp.a"
+    cc -O2 -I"$here/../include" -o "$room/put" "$here/put.c" "$bindings/out/libcqlp.a"
     cargo build -q --offline --release --manifest-path "$bindings/rust/Cargo.toml" --example count
 fi
 

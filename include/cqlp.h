@@ -831,8 +831,8 @@ static inline uint32_t cqlp_page_begin(const cqlp_event *events, size_t count, c
 
 /* Puts the next cells of a page, each whole, and says how many events they have and how many bytes. It goes on over all events, or stops at the first
  * that is refused, or whose cell has no room. The cells before are put, and the page goes on behind them; of the cell that is refused nothing is put, and
- * the bytes after those that were put are as they were. Events of a cell that is not put are given again, from its first on. It asks for memory for
- * one cell, and gives it back.
+ * the bytes after those that were put are as they were. Events of a cell that is not put are given again, from its first on. A cell whose one event is a
+ * value of its column's type, which has no inner types, is put without memory; for any other it asks for memory, and gives it back.
  * Answers CQLP_DONE where the last event ends a cell, or there is none. Else
  * - CQLP_NOT_ENDED where it does not: give the events after the first `events` again, together with those after them;
  * - CQLP_NO_ROOM: the next cell has `wanted` bytes, and as many are not left;

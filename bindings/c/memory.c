@@ -235,7 +235,132 @@ static void refuse_each(const row *row) {
   printf("%s: %zu requests\n", row->name, all);
 }
 
+/* ---- cells of one event, for which no memory is asked */
+
+#define LEAF(of, ...) {.tag = CQLP_TAG_LEAF, .kind = (of), __VA_ARGS__}
+
+/* A cell of a column of this kind, its content, and the bytes that sections 4.2.5.2 and 6 of the standard give it, or why it has none. */
+typedef struct scalar {
+  const char *what;
+  uint8_t kind;
+  cqlp_event cell;
+  const char *content;
+  const char *bytes;
+  size_t length;
+  uint32_t code;
+} scalar;
+
+static const scalar SCALARS[] = {
+    {"custom", CQLP_KIND_CUSTOM, LEAF(CQLP_KIND_CUSTOM, .length = 2), "ab", "\0\0\0\2ab", 6, 0},
+    {"ascii", CQLP_KIND_ASCII, LEAF(CQLP_KIND_ASCII, .length = 2), "a\x7F", "\0\0\0\2a\x7F", 6, 0},
+    {"bigint", CQLP_KIND_BIGINT, LEAF(CQLP_KIND_BIGINT, .number = -2), "", "\0\0\0\x8\xFF\xFF\xFF\xFF\xFF\xFF\xFF\xFE", 12, 0},
+    {"blob", CQLP_KIND_BLOB, LEAF(CQLP_KIND_BLOB, .length = 2), "\0\xFF", "\0\0\0\2\0\xFF", 6, 0},
+    {"boolean", CQLP_KIND_BOOLEAN, LEAF(CQLP_KIND_BOOLEAN, .number = 1), "", "\0\0\0\1\1", 5, 0},
+    {"counter", CQLP_KIND_COUNTER, LEAF(CQLP_KIND_COUNTER, .number = 258), "", "\0\0\0\x8\0\0\0\0\0\0\1\2", 12, 0},
+    {"decimal", CQLP_KIND_DECIMAL, LEAF(CQLP_KIND_DECIMAL, .extra = -1, .length = 2), "\1\2", "\0\0\0\6\xFF\xFF\xFF\xFF\1\2", 10, 0},
+    {"double", CQLP_KIND_DOUBLE, LEAF(CQLP_KIND_DOUBLE, .bytes = {0x3F, 0xF0, 0, 0, 0, 0, 0, 9}), "", "\0\0\0\x8\x3F\xF0\0\0\0\0\0\x9", 12, 0},
+    {"float", CQLP_KIND_FLOAT, LEAF(CQLP_KIND_FLOAT, .bytes = {0x3F, 0x80, 0, 9}), "", "\0\0\0\4\x3F\x80\0\x9", 8, 0},
+    {"int", CQLP_KIND_INT, LEAF(CQLP_KIND_INT, .number = -2147483648), "", "\0\0\0\4\x80\0\0\0", 8, 0},
+    {"timestamp", CQLP_KIND_TIMESTAMP, LEAF(CQLP_KIND_TIMESTAMP, .number = 1), "", "\0\0\0\x8\0\0\0\0\0\0\0\1", 12, 0},
+    {"uuid", CQLP_KIND_UUID, LEAF(CQLP_KIND_UUID, .bytes = "abcdefghijklmnop"), "", "\0\0\0\x10" "abcdefghijklmnop", 20, 0},
+    {"varchar", CQLP_KIND_VARCHAR, LEAF(CQLP_KIND_VARCHAR, .length = 3), "a\xC3\xA9", "\0\0\0\3a\xC3\xA9", 7, 0},
+    {"varint", CQLP_KIND_VARINT, LEAF(CQLP_KIND_VARINT, .length = 1), "\x80", "\0\0\0\1\x80", 5, 0},
+    {"timeuuid", CQLP_KIND_TIMEUUID, LEAF(CQLP_KIND_TIMEUUID, .bytes = "abcdef\x10hijklmnop"), "", "\0\0\0\x10" "abcdef\x10hijklmnop", 20, 0},
+    {"inet of 4", CQLP_KIND_INET, LEAF(CQLP_KIND_INET, .octets = 4, .bytes = {127, 0, 0, 1}), "", "\0\0\0\4\x7F\0\0\1", 8, 0},
+    {"inet of 16", CQLP_KIND_INET, LEAF(CQLP_KIND_INET, .octets = 16, .bytes = "abcdefghijklmnop"), "", "\0\0\0\x10" "abcdefghijklmnop", 20, 0},
+    {"date", CQLP_KIND_DATE, LEAF(CQLP_KIND_DATE, .number = 2147483648), "", "\0\0\0\4\x80\0\0\0", 8, 0},
+    {"time", CQLP_KIND_TIME, LEAF(CQLP_KIND_TIME, .number = 86399999999999), "", "\0\0\0\x8\0\0\x4E\x94\x91\x4E\xFF\xFF", 12, 0},
+    {"smallint", CQLP_KIND_SMALLINT, LEAF(CQLP_KIND_SMALLINT, .number = -2), "", "\0\0\0\2\xFF\xFE", 6, 0},
+    {"tinyint", CQLP_KIND_TINYINT, LEAF(CQLP_KIND_TINYINT, .number = -128), "", "\0\0\0\1\x80", 5, 0},
+    {"raw", CQLP_KIND_RAW, LEAF(CQLP_KIND_RAW, .length = 1), "r", "\0\0\0\1r", 5, 0},
+    {"null", CQLP_KIND_INT, {.tag = CQLP_TAG_NULL}, "", "\xFF\xFF\xFF\xFF", 4, 0},
+    {"null, raw", CQLP_KIND_RAW, {.tag = CQLP_TAG_NULL}, "", "\xFF\xFF\xFF\xFF", 4, 0},
+    {"null, custom", CQLP_KIND_CUSTOM, {.tag = CQLP_TAG_NULL}, "", "\xFF\xFF\xFF\xFF", 4, 0},
+    {"empty", CQLP_KIND_VARCHAR, {.tag = CQLP_TAG_EMPTY}, "", "\0\0\0\0", 4, 0},
+    {"empty int", CQLP_KIND_INT, {.tag = CQLP_TAG_EMPTY}, "", "\0\0\0\0", 4, 0},
+    {"another kind", CQLP_KIND_INT, LEAF(CQLP_KIND_DATE, .number = 7), "", "", 0, CQLP_NO_VALUE},
+    {"raw, typed", CQLP_KIND_BLOB, LEAF(CQLP_KIND_RAW, .length = 1), "r", "", 0, CQLP_NO_VALUE},
+    {"typed, raw", CQLP_KIND_RAW, LEAF(CQLP_KIND_INT, .number = 7), "", "", 0, CQLP_NO_VALUE},
+    {"text of no bytes", CQLP_KIND_VARCHAR, LEAF(CQLP_KIND_VARCHAR, .length = 0), "", "", 0, CQLP_NO_VALUE},
+    {"blob of no bytes", CQLP_KIND_BLOB, LEAF(CQLP_KIND_BLOB, .length = 0), "", "", 0, CQLP_NO_VALUE},
+    {"decimal of no bytes", CQLP_KIND_DECIMAL, LEAF(CQLP_KIND_DECIMAL, .length = 0), "", "", 0, CQLP_NO_VALUE},
+    {"ascii past 7F", CQLP_KIND_ASCII, LEAF(CQLP_KIND_ASCII, .length = 2), "\xC3\xA9", "", 0, CQLP_NO_VALUE},
+    {"timeuuid of version 4", CQLP_KIND_TIMEUUID, LEAF(CQLP_KIND_TIMEUUID, .bytes = "abcdef\x40hijklmnop"), "", "", 0, CQLP_NO_VALUE},
+    {"time of 24 hours", CQLP_KIND_TIME, LEAF(CQLP_KIND_TIME, .number = 86400000000000), "", "", 0, CQLP_NO_VALUE},
+    {"time before midnight", CQLP_KIND_TIME, LEAF(CQLP_KIND_TIME, .number = -1), "", "", 0, CQLP_NO_VALUE},
+    {"inside", CQLP_KIND_INT, LEAF(CQLP_KIND_INT, .number = 7, .level = 1), "", "", 0, CQLP_NOT_ENDED},
+    {"another row", CQLP_KIND_INT, LEAF(CQLP_KIND_INT, .number = 7, .row = 1), "", "", 0, CQLP_MISPLACED},
+    {"another column", CQLP_KIND_INT, LEAF(CQLP_KIND_INT, .number = 7, .column = 1), "", "", 0, CQLP_MISPLACED},
+    {"no UTF-8", CQLP_KIND_VARCHAR, LEAF(CQLP_KIND_VARCHAR, .length = 1), "\xC3", "", 0, CQLP_NO_EVENT},
+    {"no boolean", CQLP_KIND_BOOLEAN, LEAF(CQLP_KIND_BOOLEAN, .number = 2), "", "", 0, CQLP_NO_EVENT},
+};
+
+/* Begins a page of one cell of this kind, of this many bytes; raw where its column is not described. */
+static void begin_one(uint8_t kind, uint64_t size, cqlp_page *page) {
+  int raw = kind == CQLP_KIND_RAW, custom = kind == CQLP_KIND_CUSTOM;
+  uint8_t bytes[64];
+  cqlp_encoded begun = {0, 0};
+  cqlp_event events[10] = {
+    {.tag = CQLP_TAG_FRAME, .opcode = CQLP_OPCODE_RESULT, .mark = CQLP_MARK_RESPONSE},
+    {.tag = CQLP_TAG_INT, .field = CQLP_FIELD_RESULT_KIND, .number = CQLP_RESULT_ROWS},
+    {.tag = CQLP_TAG_INT, .field = CQLP_FIELD_META_FLAGS, .number = raw ? 4 : 1},
+    {.tag = CQLP_TAG_COUNT, .field = CQLP_FIELD_COLUMNS, .number = 1},
+    {.tag = CQLP_TAG_TEXT, .field = CQLP_FIELD_KEYSPACE, .length = 1},
+    {.tag = CQLP_TAG_TEXT, .field = CQLP_FIELD_TABLE, .length = 1},
+    {.tag = CQLP_TAG_TEXT, .field = CQLP_FIELD_COLUMN_NAME, .length = 1},
+    {.tag = CQLP_TAG_TYPE_NODE, .kind = kind},
+    {.tag = CQLP_TAG_TEXT, .field = CQLP_FIELD_CLASS, .length = 1},
+  };
+  size_t count = raw ? 4 : custom ? 9 : 8, length = raw ? 0 : custom ? 4 : 3;
+  events[count++] = (cqlp_event){.tag = CQLP_TAG_COUNT, .field = CQLP_FIELD_ROWS, .number = 1};
+  CHECK(cqlp_page_begin(events, count, (const uint8_t *)"ktcx", length, size, bytes, sizeof bytes, page, &begun) == CQLP_DONE);
+}
+
+/* Puts the cell, as the first of a page whose cells have this many bytes, into a room of this size, where each request for memory is refused or none is. */
+static uint32_t put_one(const scalar *scalar, uint64_t size, size_t room, int refuse, cqlp_put *put) {
+  cqlp_page page = CQLP_NO_PAGE_YET;
+  size_t length = scalar->cell.tag == CQLP_TAG_LEAF ? scalar->cell.length : 0;
+  uint8_t *bytes = memset(edge(BYTES, room), 0xA5, room), *contents = memcpy(edge(PIECE, length), scalar->content, length);
+  refused = 0;
+  begin_one(scalar->kind, size, &page);
+  requests = 0;
+  refused = refuse;
+  uint32_t code = cqlp_page_put(&page, &scalar->cell, 1, contents, length, bytes, room, put);
+  refused = 0;
+  size_t done = code == CQLP_DONE ? scalar->length : 0;
+  CHECK(put->length == done && memcmp(bytes, scalar->bytes, done) == 0 && put->events == (done > 0) && put->used == (done ? length : 0));
+  for (size_t i = done; i < room; i++) CHECK(bytes[i] == 0xA5);
+  CHECK(cqlp_page_end(&page) == (done == 0 ? CQLP_CELLS_MISSING : done == size ? CQLP_DONE : CQLP_BYTES_MISSING));
+  CHECK(cqlp_page_free(&page) == CQLP_DONE && taken == 0);
+  return code;
+}
+
+/* A cell of one event is put with no request for memory, and so is refused for want of room or bytes; one that is no value is refused, or lacks memory. */
+static void put_scalars(void) {
+  size_t put_ones = 0;
+  for (size_t i = 0; i < sizeof SCALARS / sizeof *SCALARS; i++) {
+    const scalar *scalar = &SCALARS[i];
+    size_t n = scalar->length;
+    cqlp_put put = {0, 0, 0, 0, 0};
+    uint32_t code = put_one(scalar, n + 20, 40, 0, &put);
+    if (code != scalar->code) fprintf(stderr, "%s: %s\n", scalar->what, cqlp_name(CQLP_GROUP_CODE, code));
+    CHECK(code == scalar->code);
+    if (code != CQLP_DONE) {
+      code = put_one(scalar, n + 20, 40, 1, &put);
+      CHECK(code == scalar->code || code == CQLP_NO_MEMORY);
+      continue;
+    }
+    CHECK(put_one(scalar, n, n, 1, &put) == CQLP_DONE && requests == 0);
+    CHECK(put_one(scalar, n, n - 1, 1, &put) == CQLP_NO_ROOM && put.wanted == n && requests == 0);
+    CHECK(put_one(scalar, n, 0, 1, &put) == CQLP_NO_ROOM && put.wanted == n && requests == 0);
+    CHECK(put_one(scalar, n - 1, 40, 1, &put) == CQLP_PAST_SIZE && requests == 0);
+    put_ones++;
+  }
+  printf("cqlp_page_put, a cell of one event: 0 requests, %zu of %zu put\n", put_ones, sizeof SCALARS / sizeof *SCALARS);
+}
+
 int main(void) {
   for (size_t i = 0; i < sizeof ROWS / sizeof ROWS[0]; i++) refuse_each(&ROWS[i]);
+  put_scalars();
   return 0;
 }
