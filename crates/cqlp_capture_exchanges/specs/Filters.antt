@@ -2,6 +2,7 @@
 use Rattle.std.specs.Prelude.{ℕ, Bool, true, false, not, ◌&&◌, ◌||◌, ◌==◌, nat_le, Option, Some, None}
 use Rattle.cqlp_note.specs.declared.opcode.Opcode.{Opcode}
 use Rattle.cqlp_note.specs.declared.opcode.Opcode.TheVariants as opcode
+use Rattle.cqlp_note.specs.Heading.{code_of}
 use Rattle.cqlp_observer.specs.Keeping.{Kept}
 use Rattle.cqlp_observer.specs.declared.message.Frame.{Frame}
 use Rattle.cqlp_observer.specs.declared.paired.Paired.{Paired}
@@ -54,7 +55,26 @@ abbrev pub is_trouble : Report → Bool
 is_trouble (Messages t end) = has_failed t
 is_trouble (Unread time o) = true
 
+-- ---- The request has the opcode that is asked for.
+
+abbrev pub has_opcode : Opcode → Frame → Bool
+has_opcode o f = code_of f.header.opcode == code_of o
+
+abbrev pub asks : Opcode → Paired Kept → Bool
+asks o (Exchange request response) = has_opcode o request.frame
+asks o (Unanswered request) = has_opcode o request.frame
+asks o (Unasked response) = false
+asks o (Event event) = false
+
+abbrev pub reported_asking : Opcode → Report → Bool
+reported_asking o (Messages t end) = asks o t
+reported_asking o (Unread time opening) = false
+
+abbrev pub is_asking : (asked : Option Opcode) → Report → Bool
+is_asking None r = true
+is_asking (Some o) r = reported_asking o r
+
 -- ---- all that is asked for
 
 abbrev pub shows : ExchangeFilter → (number : ℕ) → Report → Bool
-shows f number r = is_of f.connection number && is_slow f.slow r && (not f.errors || is_trouble r)
+shows f number r = is_of f.connection number && is_slow f.slow r && (not f.errors || is_trouble r) && is_asking f.opcode r

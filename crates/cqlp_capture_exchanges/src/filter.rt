@@ -2,7 +2,7 @@
 
 ghost use Rattle.std.specs.Prelude.{◌≡◌};
 ghost use Rattle.cqlp_capture_exchanges.specs.Reports.{report_of};
-ghost use Rattle.cqlp_capture_exchanges.specs.Filters.{has_failed, is_at_least, is_error, is_failure, is_of, is_slow, is_trouble, reported_slow, took_at_least};
+ghost use Rattle.cqlp_capture_exchanges.specs.Filters.{asks, has_failed, has_opcode, is_asking, is_at_least, is_error, is_failure, is_of, is_slow, is_trouble, reported_asking, reported_slow, took_at_least};
 
 use crate::report::Report;
 use crate::span::{Span, is_short, took};
@@ -17,6 +17,8 @@ pub struct ExchangeFilter {
     pub slow: Option<u64>,
     /// Only exchanges whose reply is an ERROR or did not come to its end, requests without a reply, and connections that are not read.
     pub errors: bool,
+    /// Only requests with this opcode, with their replies.
+    pub opcode: Option<Opcode>,
     /// Only what is reported of the connection with this number.
     pub connection: Option<u64>,
 }
@@ -28,6 +30,7 @@ impl ExchangeFilter {
     pub const ALL: ExchangeFilter = ExchangeFilter {
         slow: None,
         errors: false,
+        opcode: None,
         connection: None,
     };
 
@@ -38,6 +41,7 @@ impl ExchangeFilter {
         is_of(self.connection, number)
             && is_slow(self.slow, report)
             && (!self.errors || is_trouble(report))
+            && is_asking(self.opcode, report)
     }
 }
 
@@ -121,4 +125,39 @@ fn is_error(opcode: Opcode) -> bool
     ensures { result ≡ is_error opcode }
 {
     opcode == Opcode::Error
+}
+
+/// Whether the request has the opcode that is asked for.
+fn is_asking<A: Allocator>(asked: Option<Opcode>, report: &Report<A>) -> bool
+    ensures { result ≡ is_asking asked (report_of report.now) }
+{
+    match asked {
+        Some(opcode) => reported_asking(opcode, report),
+        None => true,
+    }
+}
+
+fn reported_asking<A: Allocator>(opcode: Opcode, report: &Report<A>) -> bool
+    ensures { result ≡ reported_asking opcode (report_of report.now) }
+{
+    match report {
+        Report::Messages { paired, .. } => asks(opcode, paired),
+        Report::Unread { .. } => false,
+    }
+}
+
+fn asks<A: Allocator>(opcode: Opcode, exchange: &Paired<Kept<A>>) -> bool
+    ensures { result ≡ asks opcode exchange.now }
+{
+    match exchange {
+        Paired::Exchange { request, .. } => has_opcode(opcode, &request.frame),
+        Paired::Unanswered { request } => has_opcode(opcode, &request.frame),
+        Paired::Unasked { .. } | Paired::Event { .. } => false,
+    }
+}
+
+fn has_opcode(opcode: Opcode, frame: &Frame) -> bool
+    ensures { result ≡ has_opcode opcode frame.now }
+{
+    frame.header.opcode.number() == opcode.number()
 }

@@ -86,7 +86,7 @@ pub rule_in_free : (name : Text) (f : Form) → (rule_in name f).is_free ≡ tru
 rule_in_free name form.File = refl
 rule_in_free name (form.Count range) = refl
 rule_in_free name form.Flag = refl
-rule_in_free name form.Folder = refl
+rule_in_free name (form.Text value) = refl
 rule_in_free name (form.Number value range) = refl
 rule_in_free name (form.Numbers range default) = refl
 rule_in_free name form.Place = refl

@@ -1,7 +1,9 @@
 -- What a command line asks for, by its words. `rows` are what the parser found at the names of a task's options.
-use Rattle.std.specs.Prelude.{◌≡◌, ℕ, ◌^◌, ◌<◌, Bool, true, false, not, List, Option, Some, None, IfSome, IsSomeAnd, codes, unwrap_or}
+use Rattle.std.specs.Prelude.{◌≡◌, ℕ, ◌^◌, ◌<◌, Bool, true, false, not, List, Option, Some, None, IfSome, IsSomeAnd, codes, option_map, unwrap_or}
 use Rattle.std.specs.Str.Parse.{IsNumeral, digits_value, without_leading_plus}
 use Rattle.clap.specs.Words.{Row, Text, first_of, one_of, subcommand_of}
+use Rattle.cqlp_note.specs.declared.opcode.Opcode.{Opcode}
+use Rattle.cqlp_text.specs.Names.{opcode_name}
 use Rattle.cqlp_options.specs.Program.{program}
 use Rattle.cqlp_options.specs.declared.capture.CaptureOptions.{CaptureOptions}
 use Rattle.cqlp_options.specs.declared.capture.CaptureTask.{CaptureTask}
@@ -47,6 +49,10 @@ IsNumber bits option rows = ReadsNumber bits (one_of option rows)
 -- a limit is the number that is given, and else its default
 abbrev pub IsLimit : (option : Text) → (default : ℕ) → List Row → ℕ → Type 0
 IsLimit option default rows n = (given : Option ℕ) × IsNumber 32 option rows given × (n ≡ unwrap_or given default)
+
+-- the opcode that has the name that is given
+abbrev pub IsOpcode : (option : Text) → List Row → Option Opcode → Type 0
+IsOpcode option rows opcode = option_map opcode_name opcode ≡ first_of option rows
 
 -- a path
 abbrev pub IsPath : (option : Text) → List Row → Text → Type 0
@@ -98,6 +104,7 @@ IsExchangesForm rows exchanges_as.Lines = IsFlag (codes "summary") rows false ×
 pub record AreExchanges (rows : List Row) (asked : ExchangeOptions) : Type 0 where
   pub slow : IsNumber 32 (codes "slow") rows asked.slow
   pub errors : IsFlag (codes "errors") rows asked.errors
+  pub opcode : IsOpcode (codes "opcode") rows asked.opcode
   pub connection : IsNumber 64 (codes "connection") rows asked.connection
   pub form : IsExchangesForm rows asked.form
 

@@ -56,6 +56,7 @@ capture =
     ∷ repeated (codes "9042") (in_range 1 65535 (named (codes "port")))
     ∷ in_range 0 4294967295 (named (codes "slow"))
     ∷ flag (codes "errors")
+    ∷ named (codes "opcode")
     ∷ from_one (named (codes "connection"))
     ∷ bound (named (codes "streams"))
     ∷ bound (flag (codes "json"))

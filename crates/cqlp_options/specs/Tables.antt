@@ -19,7 +19,7 @@ abbrev pub rule_in : Text → Form → Rule
 rule_in name form.File = model.path name
 rule_in name (form.Count range) = model.in_range range.least range.greatest (model.path name)
 rule_in name form.Flag = model.flag name
-rule_in name form.Folder = model.named name
+rule_in name (form.Text value) = model.named name
 rule_in name (form.Number value range) = model.in_range range.least range.greatest (model.named name)
 rule_in name (form.Numbers range default) = model.repeated default.now (model.in_range range.least range.greatest (model.named name))
 rule_in name form.Place = model.from_one (model.named name)

@@ -1,14 +1,17 @@
 //! What is asked for with a capture.
 
-ghost use Rattle.std.specs.Prelude.{◌≡◌, ◌≤◌, IfSome, length};
+ghost use Rattle.std.specs.Prelude.{◌≡◌, ◌≤◌, IfOk, IfSome, codes, length};
 ghost use Rattle.clap.specs.Words.{found_of, rows_of};
-ghost use Rattle.cqlp_options.specs.Matched.{AreCaptureOptions, AreExchanges, IsCaptureTask, IsExchangesForm};
+ghost use Rattle.cqlp_text.specs.Names.{opcode_name};
+ghost use Rattle.cqlp_options.specs.Matched.{AreCaptureOptions, AreExchanges, IsCaptureTask, IsExchangesForm, IsOpcode};
 ghost use Rattle.cqlp_options.specs.CaptureLimits.{AreWithin as AreWithinRanges};
 ghost use Rattle.cqlp_options.specs.Ports.{AreWithin, named};
 
+use crate::bad_value::BadValue;
 use crate::limits::CaptureLimits;
 use crate::matched::{flag, long_number, number, path};
 use clap::ArgMatches;
+use cqlp_note::Opcode;
 
 /// How many ports may be named.
 pub const MOST_PORTS: usize = 16;
@@ -95,21 +98,25 @@ pub struct ExchangeOptions {
     pub slow: Option<u32>,
     /// Those alone whose reply is an ERROR, and requests without a reply.
     pub errors: bool,
+    /// Requests with this opcode alone.
+    pub opcode: Option<Opcode>,
     /// Those of the connection with this number alone; the first has the number 1.
     pub connection: Option<u64>,
     pub form: ExchangesAs,
 }
 
 impl ExchangeOptions {
-    fn matched(matches: &ArgMatches<'_>) -> ExchangeOptions
-        ensures { AreExchanges (rows_of (found_of matches.now)) result }
+    fn matched(matches: &ArgMatches<'_>) -> Result<ExchangeOptions, BadValue>
+        ensures { IfOk result (AreExchanges (rows_of (found_of matches.now))) }
     {
-        ExchangeOptions {
+        let opcode = opcode_of(matches)?;
+        Ok(ExchangeOptions {
             slow: number(matches, "slow"),
             errors: flag(matches, "errors"),
+            opcode,
             connection: long_number(matches, "connection"),
             form: ExchangesAs::matched(matches),
-        }
+        })
     }
 }
 
@@ -128,22 +135,23 @@ pub enum CaptureTask<'a> {
 }
 
 impl<'a> CaptureTask<'a> {
-    /// What the words were matched to, if a connection is named whose pages are asked for.
-    fn matched(matches: &ArgMatches<'a>) -> Option<CaptureTask<'a>>
-        ensures { IfSome result (IsCaptureTask (rows_of (found_of matches.now))) }
+    /// What the words were matched to, if a connection is named whose pages are asked for, and what is asked of exchanges is there.
+    fn matched(matches: &ArgMatches<'a>) -> Result<CaptureTask<'a>, BadValue>
+        ensures { IfOk result (IsCaptureTask (rows_of (found_of matches.now))) }
     {
         let connection = long_number(matches, "connection");
         if let Some(folder) = path(matches, "streams") {
-            return Some(CaptureTask::Streams { folder });
+            return Ok(CaptureTask::Streams { folder });
         }
         if flag(matches, "rows") {
-            return connection.map(|connection| CaptureTask::Rows { connection });
+            let connection = connection.ok_or(BadValue::Range)?;
+            return Ok(CaptureTask::Rows { connection });
         }
-        Some(if flag(matches, "events") {
-            CaptureTask::Events { connection }
-        } else {
-            CaptureTask::Exchanges(ExchangeOptions::matched(matches))
-        })
+        if flag(matches, "events") {
+            return Ok(CaptureTask::Events { connection });
+        }
+        let asked = ExchangeOptions::matched(matches)?;
+        Ok(CaptureTask::Exchanges(asked))
     }
 }
 
@@ -158,16 +166,16 @@ pub struct CaptureOptions<'a> {
 }
 
 impl<'a> CaptureOptions<'a> {
-    /// What the words were matched to, if the limits are in their ranges and there are not too many ports.
-    pub(crate) fn matched(matches: &ArgMatches<'a>) -> Option<CaptureOptions<'a>>
-        ensures within { IfSome result (λ options. AreWithin options.ports × AreWithinRanges options.limits) }
-        ensures words { IfSome result (AreCaptureOptions (rows_of (found_of matches.now))) }
+    /// What the words were matched to, if the limits are in their ranges, there are not too many ports, and what is asked of exchanges is there.
+    pub(crate) fn matched(matches: &ArgMatches<'a>) -> Result<CaptureOptions<'a>, BadValue>
+        ensures within { IfOk result (λ options. AreWithin options.ports × AreWithinRanges options.limits) }
+        ensures words { IfOk result (AreCaptureOptions (rows_of (found_of matches.now))) }
     {
-        let file = path(matches, "file")?;
+        let file = path(matches, "file").ok_or(BadValue::Range)?;
         let task = CaptureTask::matched(matches)?;
-        let limits = CaptureLimits::matched(matches)?;
-        let ports = ports_of(matches)?;
-        Some(CaptureOptions {
+        let limits = CaptureLimits::matched(matches).ok_or(BadValue::Range)?;
+        let ports = ports_of(matches).ok_or(BadValue::Range)?;
+        Ok(CaptureOptions {
             task,
             limits,
             ports,
@@ -187,4 +195,34 @@ fn ports_of(matches: &ArgMatches<'_>) -> Option<Ports>
         ports = ports.with(port.ok()?)?;
     }
     if ports.count == 0 { None } else { Some(ports) }
+}
+
+/// The opcode that is asked for, if one is.
+fn opcode_of(matches: &ArgMatches<'_>) -> Result<Option<Opcode>, BadValue>
+    ensures { IfOk result (IsOpcode (codes "opcode") (rows_of (found_of matches.now))) }
+{
+    match path(matches, "opcode") {
+        Some(name) => {
+            let opcode = request_named(name).ok_or(BadValue::Opcode)?;
+            Ok(Some(opcode))
+        }
+        None => Ok(None),
+    }
+}
+
+/// The opcode of requests that has this name in lines.
+fn request_named(name: &str) -> Option<Opcode>
+    ensures { IfSome result (λ opcode. name.now ≡ opcode_name opcode) }
+{
+    match name {
+        "STARTUP" => Some(Opcode::Startup),
+        "OPTIONS" => Some(Opcode::Options),
+        "QUERY" => Some(Opcode::Query),
+        "PREPARE" => Some(Opcode::Prepare),
+        "EXECUTE" => Some(Opcode::Execute),
+        "BATCH" => Some(Opcode::Batch),
+        "REGISTER" => Some(Opcode::Register),
+        "AUTH_RESPONSE" => Some(Opcode::AuthResponse),
+        _ => None,
+    }
 }

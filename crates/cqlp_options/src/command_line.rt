@@ -5,6 +5,7 @@ ghost use Rattle.clap.specs.Words.{found_of, rows_of, subcommand_rows_of};
 ghost use Rattle.cqlp_options.specs.CommandLines.{IsWithin};
 ghost use Rattle.cqlp_options.specs.Matched.{AskFor, IsLineOf, IsNumber};
 
+use crate::bad_value::BadValue;
 use crate::capture::CaptureOptions;
 use crate::matched::short_number;
 use crate::no_task::{NoTask, no_task_of};
@@ -67,35 +68,35 @@ fn parsed<'a, S: AsStr>(alloc: Global, words: &'a [S]) -> Result<CommandLine<'a>
     let mut program = program(alloc)?;
     let matches = program.try_get_matches_from_mut(words)?;
     match line_of(&matches) {
-        Some(line) => Ok(line),
-        None => Err(out_of_range(&mut program)),
+        Ok(line) => Ok(line),
+        Err(bad) => Err(bad_value(&mut program, bad)),
     }
 }
 
-fn out_of_range(program: &mut Command<'_>) -> Error {
-    match program.error(ErrorKind::ValueValidation, "a number is out of its range") {
+fn bad_value(program: &mut Command<'_>, bad: BadValue) -> Error {
+    match program.error(ErrorKind::ValueValidation, bad.text()) {
         Ok(error) => error,
         Err(error) => Error::from(error),
     }
 }
 
-/// What the words of a command line were matched to, if its numbers are in their ranges.
-fn line_of<'a>(matches: &ArgMatches<'a>) -> Option<CommandLine<'a>>
-    ensures within { IfSome result IsWithin }
-    ensures words { IfSome result (IsLineOf (subcommand_rows_of matches.now)) }
+/// What the words of a command line were matched to, if its values are good.
+fn line_of<'a>(matches: &ArgMatches<'a>) -> Result<CommandLine<'a>, BadValue>
+    ensures within { IfOk result IsWithin }
+    ensures words { IfOk result (IsLineOf (subcommand_rows_of matches.now)) }
 {
-    match matches.subcommand()? {
+    match matches.subcommand().ok_or(BadValue::Range)? {
         ("loop", matches) => {
-            let queries = queries_of(matches)?;
-            Some(CommandLine::Loop { queries })
+            let queries = queries_of(matches).ok_or(BadValue::Range)?;
+            Ok(CommandLine::Loop { queries })
         }
         ("capture", matches) => {
             let options = CaptureOptions::matched(matches)?;
-            Some(CommandLine::Capture(options))
+            Ok(CommandLine::Capture(options))
         }
         (name, matches) => {
-            let options = Options::matched(name, matches)?;
-            Some(CommandLine::Stream(options))
+            let options = Options::matched(name, matches).ok_or(BadValue::Range)?;
+            Ok(CommandLine::Stream(options))
         }
     }
 }

@@ -1,6 +1,7 @@
 //! What a command line of the program cqlp asks for.
 #![tactic(auto)]
 
+mod bad_value;
 mod capture;
 mod command_line;
 pub mod laws;

@@ -57,7 +57,12 @@ SplitsCapture l folder ports before status after =
 -- what is asked of exchanges, with the time in nanoseconds
 abbrev pub filter_of : ExchangeOptions → ExchangeFilter
 filter_of asked =
-    record { slow = option_map (λ ms. ms * 1000000) asked.slow; errors = asked.errors; connection = asked.connection }
+    record {
+      slow = option_map (λ ms. ms * 1000000) asked.slow;
+      errors = asked.errors;
+      opcode = asked.opcode;
+      connection = asked.connection;
+    }
 
 -- and how they are written
 abbrev pub form_of : ExchangesAs → ExchangeForm

@@ -14,6 +14,8 @@ pub struct ExchangeFilter {
     pub slow: Option<u64>,
     /// Only exchanges whose reply is an ERROR or did not come to its end, requests without a reply, and connections that are not read.
     pub errors: bool,
+    /// Only requests with this opcode, with their replies.
+    pub opcode: Option<Opcode>,
     /// Only what is reported of the connection with this number.
     pub connection: Option<u64>,
 }
@@ -23,6 +25,7 @@ impl ExchangeFilter {
     pub const ALL: ExchangeFilter = ExchangeFilter {
         slow: None,
         errors: false,
+        opcode: None,
         connection: None,
     };
 
@@ -31,6 +34,7 @@ impl ExchangeFilter {
         is_of(self.connection, number)
             && is_slow(self.slow, report)
             && (!self.errors || is_trouble(report))
+            && is_asking(self.opcode, report)
     }
 }
 
@@ -96,4 +100,31 @@ pub(crate) fn is_failure(response: &Frame) -> bool {
 
 fn is_error(opcode: Opcode) -> bool {
     opcode == Opcode::Error
+}
+
+/// Whether the request has the opcode that is asked for.
+fn is_asking<A: Allocator>(asked: Option<Opcode>, report: &Report<A>) -> bool {
+    match asked {
+        Some(opcode) => reported_asking(opcode, report),
+        None => true,
+    }
+}
+
+fn reported_asking<A: Allocator>(opcode: Opcode, report: &Report<A>) -> bool {
+    match report {
+        Report::Messages { paired, .. } => asks(opcode, paired),
+        Report::Unread { .. } => false,
+    }
+}
+
+fn asks<A: Allocator>(opcode: Opcode, exchange: &Paired<Kept<A>>) -> bool {
+    match exchange {
+        Paired::Exchange { request, .. } => has_opcode(opcode, &request.frame),
+        Paired::Unanswered { request } => has_opcode(opcode, &request.frame),
+        Paired::Unasked { .. } | Paired::Event { .. } => false,
+    }
+}
+
+fn has_opcode(opcode: Opcode, frame: &Frame) -> bool {
+    frame.header.opcode.number() == opcode.number()
 }

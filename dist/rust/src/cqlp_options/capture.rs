@@ -1,9 +1,11 @@
 // Written by dist/erase from crates/cqlp_options/src/capture.rt.
 //! What is asked for with a capture.
 
+use crate::cqlp_options::bad_value::BadValue;
 use crate::cqlp_options::limits::CaptureLimits;
 use crate::cqlp_options::matched::{flag, long_number, number, path};
 use crate::clap::ArgMatches;
+use crate::cqlp_note::Opcode;
 
 /// How many ports may be named.
 pub const MOST_PORTS: usize = 16;
@@ -81,19 +83,23 @@ pub struct ExchangeOptions {
     pub slow: Option<u32>,
     /// Those alone whose reply is an ERROR, and requests without a reply.
     pub errors: bool,
+    /// Requests with this opcode alone.
+    pub opcode: Option<Opcode>,
     /// Those of the connection with this number alone; the first has the number 1.
     pub connection: Option<u64>,
     pub form: ExchangesAs,
 }
 
 impl ExchangeOptions {
-    fn matched(matches: &ArgMatches<'_>) -> ExchangeOptions {
-        ExchangeOptions {
+    fn matched(matches: &ArgMatches<'_>) -> Result<ExchangeOptions, BadValue> {
+        let opcode = opcode_of(matches)?;
+        Ok(ExchangeOptions {
             slow: number(matches, "slow"),
             errors: flag(matches, "errors"),
+            opcode,
             connection: long_number(matches, "connection"),
             form: ExchangesAs::matched(matches),
-        }
+        })
     }
 }
 
@@ -112,20 +118,21 @@ pub enum CaptureTask<'a> {
 }
 
 impl<'a> CaptureTask<'a> {
-    /// What the words were matched to, if a connection is named whose pages are asked for.
-    fn matched(matches: &ArgMatches<'a>) -> Option<CaptureTask<'a>> {
+    /// What the words were matched to, if a connection is named whose pages are asked for, and what is asked of exchanges is there.
+    fn matched(matches: &ArgMatches<'a>) -> Result<CaptureTask<'a>, BadValue> {
         let connection = long_number(matches, "connection");
         if let Some(folder) = path(matches, "streams") {
-            return Some(CaptureTask::Streams { folder });
+            return Ok(CaptureTask::Streams { folder });
         }
         if flag(matches, "rows") {
-            return connection.map(|connection| CaptureTask::Rows { connection });
+            let connection = connection.ok_or(BadValue::Range)?;
+            return Ok(CaptureTask::Rows { connection });
         }
-        Some(if flag(matches, "events") {
-            CaptureTask::Events { connection }
-        } else {
-            CaptureTask::Exchanges(ExchangeOptions::matched(matches))
-        })
+        if flag(matches, "events") {
+            return Ok(CaptureTask::Events { connection });
+        }
+        let asked = ExchangeOptions::matched(matches)?;
+        Ok(CaptureTask::Exchanges(asked))
     }
 }
 
@@ -140,13 +147,13 @@ pub struct CaptureOptions<'a> {
 }
 
 impl<'a> CaptureOptions<'a> {
-    /// What the words were matched to, if the limits are in their ranges and there are not too many ports.
-    pub(crate) fn matched(matches: &ArgMatches<'a>) -> Option<CaptureOptions<'a>> {
-        let file = path(matches, "file")?;
+    /// What the words were matched to, if the limits are in their ranges, there are not too many ports, and what is asked of exchanges is there.
+    pub(crate) fn matched(matches: &ArgMatches<'a>) -> Result<CaptureOptions<'a>, BadValue> {
+        let file = path(matches, "file").ok_or(BadValue::Range)?;
         let task = CaptureTask::matched(matches)?;
-        let limits = CaptureLimits::matched(matches)?;
-        let ports = ports_of(matches)?;
-        Some(CaptureOptions {
+        let limits = CaptureLimits::matched(matches).ok_or(BadValue::Range)?;
+        let ports = ports_of(matches).ok_or(BadValue::Range)?;
+        Ok(CaptureOptions {
             task,
             limits,
             ports,
@@ -164,4 +171,30 @@ fn ports_of(matches: &ArgMatches<'_>) -> Option<Ports> {
         ports = ports.with(port.ok()?)?;
     }
     if ports.count == 0 { None } else { Some(ports) }
+}
+
+/// The opcode that is asked for, if one is.
+fn opcode_of(matches: &ArgMatches<'_>) -> Result<Option<Opcode>, BadValue> {
+    match path(matches, "opcode") {
+        Some(name) => {
+            let opcode = request_named(name).ok_or(BadValue::Opcode)?;
+            Ok(Some(opcode))
+        }
+        None => Ok(None),
+    }
+}
+
+/// The opcode of requests that has this name in lines.
+fn request_named(name: &str) -> Option<Opcode> {
+    match name {
+        "STARTUP" => Some(Opcode::Startup),
+        "OPTIONS" => Some(Opcode::Options),
+        "QUERY" => Some(Opcode::Query),
+        "PREPARE" => Some(Opcode::Prepare),
+        "EXECUTE" => Some(Opcode::Execute),
+        "BATCH" => Some(Opcode::Batch),
+        "REGISTER" => Some(Opcode::Register),
+        "AUTH_RESPONSE" => Some(Opcode::AuthResponse),
+        _ => None,
+    }
 }

@@ -1,6 +1,7 @@
 // Written by dist/erase from crates/cqlp_options/src/lib.rt.
 //! What a command line of the program cqlp asks for.
 
+mod bad_value;
 mod capture;
 mod command_line;
 mod limits;

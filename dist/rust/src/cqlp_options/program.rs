@@ -94,7 +94,7 @@ fn formed<'a>(arg: Arg<'a>, name: &'static str, form: Form) -> Arg<'a> {
             .required(true)
             .value_parser(in_range(range)),
         Form::Flag => arg.long(name).action(ArgAction::SetTrue),
-        Form::Folder => arg.long(name).value_name("DIR"),
+        Form::Text(value) => arg.long(name).value_name(value),
         Form::Number(value, range) => arg
             .long(name)
             .value_name(value)
@@ -146,8 +146,8 @@ enum Form {
     Count(LimitRange),
     /// By its name alone.
     Flag,
-    /// By its name and a path.
-    Folder,
+    /// By its name and a text, which help calls so.
+    Text(&'static str),
     /// By its name and a number in this range, which help calls so.
     Number(&'static str, LimitRange),
     /// By its name and a number in this range, once or more often; this one where it is not given.
@@ -186,7 +186,8 @@ const TASKS: [Task; 5] = [
         about: "Write a line for each request in a packet capture and its reply, with --summary one for each statement \
                 at the end, with --events one for each event of each frame, with --rows the pages of one connection, or \
                 with --streams the bytes of each direction of each connection to a file of its own",
-        example: "Example: tcpdump -U -w - port 9042 | cqlp capture --slow 10 -",
+        example: "Options whose help begins with Only choose lines: the verdict and the status are those of the whole capture.\n\
+                  Example: tcpdump -U -w - port 9042 | cqlp capture --slow 10 -",
         words: &[&CAPTURE],
     },
 ];
@@ -310,7 +311,7 @@ const ALL: LimitRange = LimitRange {
 
 /// What `capture` takes. The help of a limit has its range and what the number is where it is not given, and docs/check compares both
 /// with `CaptureLimits`.
-const CAPTURE: [Word; 16] = [
+const CAPTURE: [Word; 17] = [
     Word {
         name: "file",
         form: Form::File,
@@ -340,6 +341,13 @@ const CAPTURE: [Word; 16] = [
         without: &[],
     },
     Word {
+        name: "opcode",
+        form: Form::Text("NAME"),
+        help: "Only requests with this opcode, by its name in the lines, such as EXECUTE",
+        with: &[],
+        without: &[],
+    },
+    Word {
         name: "connection",
         form: Form::Place,
         help: "Only what is told of the connection with this number; the first has the number 1",
@@ -348,10 +356,10 @@ const CAPTURE: [Word; 16] = [
     },
     Word {
         name: "streams",
-        form: Form::Folder,
+        form: Form::Text("DIR"),
         help: "The folder for the files N.requests.bin and N.responses.bin of connection N",
         with: &[],
-        without: &["slow", "errors", "connection", "open", "text"],
+        without: &["slow", "errors", "opcode", "connection", "open", "text"],
     },
     Word {
         name: "json",
@@ -381,7 +389,7 @@ const CAPTURE: [Word; 16] = [
         help: "A line for each event of each frame, after the connection's number and > of a request or < of a response",
         with: &[],
         without: &[
-            "slow", "errors", "json", "summary", "streams", "open", "text",
+            "slow", "errors", "opcode", "json", "summary", "streams", "open", "text",
         ],
     },
     Word {
@@ -390,7 +398,7 @@ const CAPTURE: [Word; 16] = [
         help: "The pages of the connection that --connection names, as cqlp rows writes them",
         with: &["connection"],
         without: &[
-            "slow", "errors", "json", "summary", "events", "streams", "open", "text",
+            "slow", "errors", "opcode", "json", "summary", "events", "streams", "open", "text",
         ],
     },
     Word {

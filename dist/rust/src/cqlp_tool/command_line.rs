@@ -226,12 +226,14 @@ fn filter_of(asked: ExchangeOptions) -> ExchangeFilter {
     let ExchangeOptions {
         slow,
         errors,
+        opcode,
         connection,
         form: _,
     } = asked;
     ExchangeFilter {
         slow: slow.map(|ms| u64::from(ms) * NANOSECONDS_PER_MILLISECOND),
         errors,
+        opcode,
         connection,
     }
 }

@@ -1,0 +1,24 @@
+// Written by dist/erase from crates/cqlp_options/src/bad_value.rt.
+//! Values of options that are none.
+
+/// What is wrong with the value of an option that the parser takes.
+#[derive(Clone, Copy, Debug, PartialEq, Eq)]
+pub(crate) enum BadValue {
+    /// A number is not in its range.
+    Range,
+    /// No request has an opcode of this name.
+    Opcode,
+}
+
+impl BadValue {
+    /// What a mistake says of it.
+    pub(crate) fn text(self) -> &'static str {
+        match self {
+            BadValue::Range => "a number is out of its range",
+            BadValue::Opcode => {
+                "invalid value for '--opcode <NAME>': it is none of STARTUP, OPTIONS, QUERY, PREPARE, EXECUTE, BATCH, REGISTER and \
+                 AUTH_RESPONSE"
+            }
+        }
+    }
+}
