@@ -35,7 +35,8 @@ deep         eight connections, on each of which 32,768 requests are open, and 1
 scattered    32 connections, of both of whose directions only each second byte comes, in packets of a byte
 block        a pcapng file with as many interfaces as there may be, options and a packet of 262,144 bytes, and a block of 4 GiB that never comes
 
-captures/made.py ends FILE COMMAND..: runs it with --json over the capture of addresses, and prints each object that names another client or node.
+captures/made.py ends FILE COMMAND..: runs it with --json over the capture of addresses, and prints each object that names another client or node,
+             and each client by whose address, as others write it, other objects are found
 
 captures/made.py long FILE [MB]: writes a capture of so many MB of zeros, of which the file system keeps next to nothing, 130 where it is not said.
 
@@ -440,6 +441,12 @@ def print_other_ends(file, command):
             print(*pair)
     if len(found) != len(due):
         print(len(found), "objects, not", len(due))
+    for number, text in addresses():
+        address = ipaddress.IPv6Address(number)
+        for name in (text, address.exploded.upper(), f"[{text}]:10000", f"[{address.exploded}]:010000"):
+            got = subprocess.run([*command, "--json", "--client", name, "--node", "::2", file], stdout=subprocess.PIPE, stderr=subprocess.DEVNULL, text=True)
+            if [of["client"] for of in map(json.loads, got.stdout.splitlines())] != [f"[{text}]:10000"] * sum(other == number for other, _ in addresses()):
+                print("other objects with --client", name)
 
 
 def on(port, *directions, syn=True):

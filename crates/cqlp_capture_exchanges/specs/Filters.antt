@@ -1,5 +1,9 @@
 -- Which exchanges are shown.
 use Rattle.std.specs.Prelude.{ℕ, Bool, true, false, not, ◌&&◌, ◌||◌, ◌==◌, nat_le, Option, Some, None}
+use Rattle.std.specs.Net.Addr.{ipv4_octets, ipv6_octets}
+use Rattle.std.specs.Str.{bytes_eq}
+use Rattle.std.specs.declared.net.ip_addr.IpAddr.{IpAddr}
+use Rattle.std.specs.declared.net.ip_addr.IpAddr.TheVariants as ip
 use Rattle.cqlp_note.specs.declared.opcode.Opcode.{Opcode}
 use Rattle.cqlp_note.specs.declared.opcode.Opcode.TheVariants as opcode
 use Rattle.cqlp_note.specs.Heading.{code_of}
@@ -7,16 +11,40 @@ use Rattle.cqlp_observer.specs.Keeping.{Kept}
 use Rattle.cqlp_observer.specs.declared.message.Frame.{Frame}
 use Rattle.cqlp_observer.specs.declared.paired.Paired.{Paired}
 use Rattle.cqlp_observer.specs.declared.paired.Paired.TheVariants.{Exchange, Unanswered, Unasked, Event}
+use Rattle.cqlp_tcp_segment.specs.declared.addresses.Address.{Address}
+use Rattle.cqlp_tcp_segment.specs.declared.addresses.Address.TheVariants as address
+use Rattle.cqlp_tcp_segment.specs.declared.addresses.Endpoint.{Endpoint}
+use Rattle.cqlp_tcp_connections.specs.declared.ends.Ends.{Ends}
+use Rattle.cqlp_capture_exchanges.specs.declared.connection.Connection.{Connection}
+use Rattle.cqlp_capture_exchanges.specs.declared.filter.EndFilter.{EndFilter}
 use Rattle.cqlp_capture_exchanges.specs.declared.filter.ExchangeFilter.{ExchangeFilter}
 use Rattle.cqlp_capture_exchanges.specs.Reports.{Report, Messages, Unread}
 use Rattle.cqlp_capture_exchanges.specs.declared.span.Span.{Span}
 use Rattle.cqlp_capture_exchanges.specs.Spans.{is_short, took}
 
--- ---- of the connection that is asked for
+-- ---- with the number that is asked for: of the connection, or the port of an end
 
 abbrev pub is_of : (asked : Option ℕ) → (number : ℕ) → Bool
 is_of None number = true
 is_of (Some n) number = n == number
+
+-- ---- of a connection between the ends that are asked for: an address, at any port or at one
+
+abbrev pub is_host : IpAddr → Address → Bool
+is_host (ip.V4 a) (address.V4 octets) = bytes_eq (ipv4_octets a) octets
+is_host (ip.V4 a) (address.V6 octets) = false
+is_host (ip.V6 a) (address.V4 octets) = false
+is_host (ip.V6 a) (address.V6 octets) = bytes_eq (ipv6_octets a) octets
+
+abbrev pub is_end : EndFilter → Endpoint → Bool
+is_end f e = is_host f.address e.address && is_of f.port e.port
+
+abbrev pub is_at : (asked : Option EndFilter) → Endpoint → Bool
+is_at None e = true
+is_at (Some f) e = is_end f e
+
+abbrev pub is_between : ExchangeFilter → Ends → Bool
+is_between f e = is_at f.client e.client && is_at f.node e.node
 
 -- ---- The reply's last byte came at least so long after the request's first.
 
@@ -76,5 +104,7 @@ is_asking (Some o) r = reported_asking o r
 
 -- ---- all that is asked for
 
-abbrev pub shows : ExchangeFilter → (number : ℕ) → Report → Bool
-shows f number r = is_of f.connection number && is_slow f.slow r && (not f.errors || is_trouble r) && is_asking f.opcode r
+abbrev pub shows : ExchangeFilter → Connection → Report → Bool
+shows f n r =
+    is_of f.connection n.number && is_between f n.ends && is_slow f.slow r
+    && (not f.errors || is_trouble r) && is_asking f.opcode r

@@ -2,13 +2,35 @@
 
 ghost use Rattle.std.specs.Prelude.{◌≡◌};
 ghost use Rattle.cqlp_capture_exchanges.specs.Reports.{report_of};
-ghost use Rattle.cqlp_capture_exchanges.specs.Filters.{asks, has_failed, has_opcode, is_asking, is_at_least, is_error, is_failure, is_of, is_slow, is_trouble, reported_asking, reported_slow, took_at_least};
+ghost use Rattle.cqlp_capture_exchanges.specs.Filters.{asks, has_failed, has_opcode, is_asking, is_at, is_at_least, is_between, is_end, is_error, is_failure, is_host};
+ghost use Rattle.cqlp_capture_exchanges.specs.Filters.{is_of, is_slow, is_trouble, reported_asking, reported_slow, took_at_least};
 
+use crate::connection::Connection;
+use crate::prepared::same_bytes;
 use crate::report::Report;
 use crate::span::{Span, is_short, took};
 use cqlp_note::Opcode;
 use cqlp_observer::{Frame, Kept, Paired};
+use cqlp_tcp_connections::Ends;
+use cqlp_tcp_segment::{Address, Endpoint};
 use std::alloc::Allocator;
+use std::net::IpAddr;
+
+/// Ends of connections: with an address, at the port with this number alone if there is one.
+#[derive(Clone, Copy, Debug, PartialEq, Eq)]
+pub struct EndFilter {
+    pub address: IpAddr,
+    pub port: Option<u16>,
+}
+
+impl EndFilter {
+    /// Whether this is such an end.
+    fn is_end(&self, end: Endpoint) -> bool
+        ensures { result ≡ is_end self.now end }
+    {
+        is_host(self.address, end.address) && is_port(self.port, end.port)
+    }
+}
 
 /// Which of the exchanges are shown: those that all of these ask for.
 #[derive(Clone, Copy, Debug, PartialEq, Eq)]
@@ -19,6 +41,10 @@ pub struct ExchangeFilter {
     pub errors: bool,
     /// Only requests with this opcode, with their replies.
     pub opcode: Option<Opcode>,
+    /// Only what is reported of connections with such a client.
+    pub client: Option<EndFilter>,
+    /// Only what is reported of connections with such a node.
+    pub node: Option<EndFilter>,
     /// Only what is reported of the connection with this number.
     pub connection: Option<u64>,
 }
@@ -31,17 +57,59 @@ impl ExchangeFilter {
         slow: None,
         errors: false,
         opcode: None,
+        client: None,
+        node: None,
         connection: None,
     };
 
-    /// Whether what is reported of the connection with this number is shown.
-    pub fn shows<A: Allocator>(&self, number: u64, report: &Report<A>) -> bool
-        ensures { result ≡ shows self.now number (report_of report.now) }
+    /// Whether what is reported of this connection is shown.
+    pub(crate) fn shows<A: Allocator>(&self, connection: &Connection, report: &Report<A>) -> bool
+        ensures { result ≡ shows self.now connection.now (report_of report.now) }
     {
-        is_of(self.connection, number)
+        is_of(self.connection, connection.number)
+            && self.is_between(&connection.ends)
             && is_slow(self.slow, report)
             && (!self.errors || is_trouble(report))
             && is_asking(self.opcode, report)
+    }
+
+    /// Whether the ends of a connection are those that are asked for.
+    fn is_between(&self, ends: &Ends) -> bool
+        ensures { result ≡ is_between self.now ends.now }
+    {
+        is_at(self.client, ends.client) && is_at(self.node, ends.node)
+    }
+}
+
+/// Whether an end is asked for.
+fn is_at(asked: Option<EndFilter>, end: Endpoint) -> bool
+    ensures { result ≡ is_at asked end }
+{
+    match asked {
+        Some(one) => one.is_end(end),
+        None => true,
+    }
+}
+
+/// Whether a host has this address.
+fn is_host(asked: IpAddr, address: Address) -> bool
+    ensures { result ≡ is_host asked address }
+{
+    match (asked, address) {
+        (IpAddr::V4(asked), Address::V4(octets)) => same_bytes(&asked.octets(), &octets),
+        (IpAddr::V6(asked), Address::V6(octets)) => same_bytes(&asked.octets(), &octets),
+        (IpAddr::V4(_), Address::V6(_)) => false,
+        (IpAddr::V6(_), Address::V4(_)) => false,
+    }
+}
+
+/// Whether a port is asked for.
+fn is_port(asked: Option<u16>, port: u16) -> bool
+    ensures { result ≡ is_of asked port }
+{
+    match asked {
+        Some(one) => one == port,
+        None => true,
     }
 }
 

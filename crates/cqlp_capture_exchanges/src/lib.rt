@@ -28,7 +28,7 @@ mod table;
 
 pub use capturing::write_exchanges;
 pub use exchanges::Exchanges;
-pub use filter::ExchangeFilter;
+pub use filter::{EndFilter, ExchangeFilter};
 pub use form::ExchangeForm;
 pub use naming::Naming;
 pub use pool::ExchangeLimits;

@@ -44,7 +44,7 @@ impl<A: Allocator> Preparation<A> {
     }
 }
 
-fn same_bytes(a: &[u8], b: &[u8]) -> bool
+pub(crate) fn same_bytes(a: &[u8], b: &[u8]) -> bool
     ensures { result ≡ bytes_eq a.now b.now }
 {
     a == b

@@ -1,5 +1,6 @@
 pub mod CaptureLimits
 pub mod CommandLines
+pub mod Ends
 pub mod Matched
 pub mod NoTasks
 pub mod Ports

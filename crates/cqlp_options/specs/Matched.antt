@@ -4,6 +4,7 @@ use Rattle.std.specs.Str.Parse.{IsNumeral, digits_value, without_leading_plus}
 use Rattle.clap.specs.Words.{Row, Text, first_of, one_of, subcommand_of}
 use Rattle.cqlp_note.specs.declared.opcode.Opcode.{Opcode}
 use Rattle.cqlp_text.specs.Names.{opcode_name}
+use Rattle.cqlp_options.specs.Ends.{NamesEnd}
 use Rattle.cqlp_options.specs.Program.{program}
 use Rattle.cqlp_options.specs.declared.capture.CaptureOptions.{CaptureOptions}
 use Rattle.cqlp_options.specs.declared.capture.CaptureTask.{CaptureTask}
@@ -13,6 +14,7 @@ use Rattle.cqlp_options.specs.declared.capture.ExchangesAs.{ExchangesAs}
 use Rattle.cqlp_options.specs.declared.capture.ExchangesAs.TheVariants as exchanges_as
 use Rattle.cqlp_options.specs.declared.command_line.CommandLine.{CommandLine}
 use Rattle.cqlp_options.specs.declared.command_line.CommandLine.TheVariants as line
+use Rattle.cqlp_options.specs.declared.end.AskedEnd.{AskedEnd}
 use Rattle.cqlp_options.specs.declared.limits.CaptureLimits.{CaptureLimits}
 use Rattle.cqlp_options.specs.declared.options.AtRefusal.{AtRefusal}
 use Rattle.cqlp_options.specs.declared.options.AtRefusal.TheVariants as at
@@ -53,6 +55,11 @@ IsLimit option default rows n = (given : Option ℕ) × IsNumber 32 option rows 
 -- the opcode that has the name that is given
 abbrev pub IsOpcode : (option : Text) → List Row → Option Opcode → Type 0
 IsOpcode option rows opcode = option_map opcode_name opcode ≡ first_of option rows
+
+-- the end that is named, if one is
+abbrev pub IsEnd : (option : Text) → List Row → Option AskedEnd → Type 0
+IsEnd option rows None = first_of option rows ≡ None
+IsEnd option rows (Some e) = IsSomeAnd (first_of option rows) (λ text. NamesEnd text e)
 
 -- a path
 abbrev pub IsPath : (option : Text) → List Row → Text → Type 0
@@ -105,6 +112,8 @@ pub record AreExchanges (rows : List Row) (asked : ExchangeOptions) : Type 0 whe
   pub slow : IsNumber 32 (codes "slow") rows asked.slow
   pub errors : IsFlag (codes "errors") rows asked.errors
   pub opcode : IsOpcode (codes "opcode") rows asked.opcode
+  pub client : IsEnd (codes "client") rows asked.client
+  pub node : IsEnd (codes "node") rows asked.node
   pub connection : IsNumber 64 (codes "connection") rows asked.connection
   pub form : IsExchangesForm rows asked.form
 

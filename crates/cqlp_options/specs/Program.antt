@@ -57,6 +57,8 @@ capture =
     ∷ in_range 0 4294967295 (named (codes "slow"))
     ∷ flag (codes "errors")
     ∷ named (codes "opcode")
+    ∷ named (codes "client")
+    ∷ named (codes "node")
     ∷ from_one (named (codes "connection"))
     ∷ bound (named (codes "streams"))
     ∷ bound (flag (codes "json"))

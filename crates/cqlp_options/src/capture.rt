@@ -8,6 +8,7 @@ ghost use Rattle.cqlp_options.specs.CaptureLimits.{AreWithin as AreWithinRanges}
 ghost use Rattle.cqlp_options.specs.Ports.{AreWithin, named};
 
 use crate::bad_value::BadValue;
+use crate::end::{AskedEnd, NoEnd, end};
 use crate::limits::CaptureLimits;
 use crate::matched::{flag, long_number, number, path};
 use clap::ArgMatches;
@@ -100,6 +101,10 @@ pub struct ExchangeOptions {
     pub errors: bool,
     /// Requests with this opcode alone.
     pub opcode: Option<Opcode>,
+    /// Those of connections of this client alone.
+    pub client: Option<AskedEnd>,
+    /// Those of connections of this node alone.
+    pub node: Option<AskedEnd>,
     /// Those of the connection with this number alone; the first has the number 1.
     pub connection: Option<u64>,
     pub form: ExchangesAs,
@@ -110,10 +115,14 @@ impl ExchangeOptions {
         ensures { IfOk result (AreExchanges (rows_of (found_of matches.now))) }
     {
         let opcode = opcode_of(matches)?;
+        let client = end(matches, "client").or(Err(BadValue::Client))?;
+        let node = end(matches, "node").or(Err(BadValue::Node))?;
         Ok(ExchangeOptions {
             slow: number(matches, "slow"),
             errors: flag(matches, "errors"),
             opcode,
+            client,
+            node,
             connection: long_number(matches, "connection"),
             form: ExchangesAs::matched(matches),
         })

@@ -4,6 +4,7 @@
 mod bad_value;
 mod capture;
 mod command_line;
+mod end;
 pub mod laws;
 mod limits;
 mod matched;
@@ -14,6 +15,7 @@ mod reported;
 
 pub use capture::{CaptureOptions, CaptureTask, ExchangeOptions, ExchangesAs, MOST_PORTS, Ports};
 pub use command_line::{CommandLine, QUERIES};
+pub use end::AskedEnd;
 pub use limits::CaptureLimits;
 pub use no_task::NoTask;
 pub use options::{AtRefusal, DEFAULT_LIMITS, EventsAs, Options, RowsAs, Task};

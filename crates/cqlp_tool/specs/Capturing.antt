@@ -6,6 +6,7 @@ use Rattle.cqlp_options.specs.declared.capture.CaptureTask.TheVariants as task
 use Rattle.cqlp_options.specs.declared.capture.ExchangeOptions.{ExchangeOptions}
 use Rattle.cqlp_options.specs.declared.capture.ExchangesAs.{ExchangesAs}
 use Rattle.cqlp_options.specs.declared.capture.ExchangesAs.TheVariants as asked_as
+use Rattle.cqlp_options.specs.declared.end.AskedEnd.{AskedEnd}
 use Rattle.cqlp_options.specs.declared.limits.CaptureLimits.{CaptureLimits}
 use Rattle.cqlp_text.specs.Endings.{cannot_open_line}
 use Rattle.cqlp_render.specs.Streams.{Input, Streams, IfKnown}
@@ -13,6 +14,7 @@ use Rattle.cqlp_capture_streams.specs.declared.limits.StreamsLimits.{StreamsLimi
 use Rattle.cqlp_capture_streams.specs.Captures.{AreCounted, ReadCounts, ReadsMade}
 use Rattle.cqlp_capture_streams.specs.Streams.{WritesStreamsBy}
 use Rattle.cqlp_capture_streams.specs.declared.buffering.Buffering.{Buffering}
+use Rattle.cqlp_capture_exchanges.specs.declared.filter.EndFilter.{EndFilter}
 use Rattle.cqlp_capture_exchanges.specs.declared.filter.ExchangeFilter.{ExchangeFilter}
 use Rattle.cqlp_capture_exchanges.specs.declared.form.ExchangeForm.{ExchangeForm}
 use Rattle.cqlp_capture_exchanges.specs.declared.form.ExchangeForm.TheVariants as form
@@ -54,6 +56,10 @@ abbrev pub SplitsCapture : StreamsLimits → (folder ports : List ℕ) → (befo
 SplitsCapture l folder ports before status after =
     MissesFolder folder before status after ⊎ SplitsToFolder l ports before status after
 
+-- an end that is asked for
+abbrev pub end_filter_of : AskedEnd → EndFilter
+end_filter_of e = record { address = e.address; port = e.port }
+
 -- what is asked of exchanges, with the time in nanoseconds
 abbrev pub filter_of : ExchangeOptions → ExchangeFilter
 filter_of asked =
@@ -61,6 +67,8 @@ filter_of asked =
       slow = option_map (λ ms. ms * 1000000) asked.slow;
       errors = asked.errors;
       opcode = asked.opcode;
+      client = option_map end_filter_of asked.client;
+      node = option_map end_filter_of asked.node;
       connection = asked.connection;
     }
 

@@ -8,7 +8,7 @@ ghost use Rattle.cqlp_options.specs.Ports.{AreWithin, named};
 ghost use Rattle.cqlp_options.specs.declared.capture.CaptureTask.TheVariants as tasks;
 ghost use Rattle.cqlp_tcp_connections.specs.Limits.{is_in_range};
 ghost use Rattle.cqlp_capture_streams.specs.declared.buffering.Buffering.TheVariants.{Line};
-ghost use Rattle.cqlp_tool.specs.Capturing.{DoesCaptureTask, IsCaptureOfInput, SplitsToFolder, filter_of, form_of};
+ghost use Rattle.cqlp_tool.specs.Capturing.{DoesCaptureTask, IsCaptureOfInput, SplitsToFolder, end_filter_of, filter_of, form_of};
 ghost use Rattle.cqlp_tool.specs.CommandLines.{Complains, DoesTask, Executes, Helps, NeedsNoInput, Performs, ReadsNoCapture};
 ghost use Rattle.cqlp_tool.specs.CommandLines.{ReportsFault, ReportsWrong, PrintsNoTask, form_of_events, form_of_rows, rules_for};
 ghost use Rattle.cqlp_tool.specs.Files.{DoesOn};
@@ -23,14 +23,14 @@ use crate::limits::{exchange_limits_of, streams_limits_of};
 use crate::marks::MARK;
 use crate::progress::Progress;
 use cqlp_capture_events::write_events;
-use cqlp_capture_exchanges::{ExchangeFilter, ExchangeForm, Naming, write_exchanges};
+use cqlp_capture_exchanges::{EndFilter, ExchangeFilter, ExchangeForm, Naming, write_exchanges};
 use cqlp_capture_rows::write_rows;
 use cqlp_capture_streams::{Buffering, StreamsLimits, write_streams};
 use cqlp_decode::SinkFault;
 use cqlp_note::{OfStd, Source, Target};
 use cqlp_options::{
-    AtRefusal, CaptureOptions, CaptureTask, CommandLine, DEFAULT_LIMITS, EventsAs, ExchangeOptions,
-    ExchangesAs, NoTask, Options, RowsAs, Task,
+    AskedEnd, AtRefusal, CaptureOptions, CaptureTask, CommandLine, DEFAULT_LIMITS, EventsAs,
+    ExchangeOptions, ExchangesAs, NoTask, Options, RowsAs, Task,
 };
 use cqlp_render::{TextForm, check, conclude, show, show_as};
 use cqlp_render_skip::{check_skipping, show_skipping};
@@ -293,6 +293,8 @@ fn filter_of(asked: ExchangeOptions) -> ExchangeFilter
         slow,
         errors,
         opcode,
+        client,
+        node,
         connection,
         form: _,
     } = asked;
@@ -300,7 +302,18 @@ fn filter_of(asked: ExchangeOptions) -> ExchangeFilter
         slow: slow.map(|ms| u64::from(ms) * NANOSECONDS_PER_MILLISECOND),
         errors,
         opcode,
+        client: client.map(end_filter_of),
+        node: node.map(end_filter_of),
         connection,
+    }
+}
+
+fn end_filter_of(asked: AskedEnd) -> EndFilter
+    ensures { result ≡ end_filter_of asked }
+{
+    EndFilter {
+        address: asked.address,
+        port: asked.port,
     }
 }
 

@@ -1,11 +1,30 @@
 // Written by dist/erase from crates/cqlp_capture_exchanges/src/filter.rt.
 //! Which exchanges are shown.
 
+use crate::cqlp_capture_exchanges::connection::Connection;
+use crate::cqlp_capture_exchanges::prepared::same_bytes;
 use crate::cqlp_capture_exchanges::report::Report;
 use crate::cqlp_capture_exchanges::span::{Span, is_short, took};
 use crate::cqlp_note::Opcode;
 use crate::cqlp_observer::{Frame, Kept, Paired};
+use crate::cqlp_tcp_connections::Ends;
+use crate::cqlp_tcp_segment::{Address, Endpoint};
 use crate::kit_std::alloc::Allocator;
+use crate::kit_host::net::IpAddr;
+
+/// Ends of connections: with an address, at the port with this number alone if there is one.
+#[derive(Clone, Copy, Debug, PartialEq, Eq)]
+pub struct EndFilter {
+    pub address: IpAddr,
+    pub port: Option<u16>,
+}
+
+impl EndFilter {
+    /// Whether this is such an end.
+    fn is_end(&self, end: Endpoint) -> bool {
+        is_host(self.address, end.address) && is_port(self.port, end.port)
+    }
+}
 
 /// Which of the exchanges are shown: those that all of these ask for.
 #[derive(Clone, Copy, Debug, PartialEq, Eq)]
@@ -16,6 +35,10 @@ pub struct ExchangeFilter {
     pub errors: bool,
     /// Only requests with this opcode, with their replies.
     pub opcode: Option<Opcode>,
+    /// Only what is reported of connections with such a client.
+    pub client: Option<EndFilter>,
+    /// Only what is reported of connections with such a node.
+    pub node: Option<EndFilter>,
     /// Only what is reported of the connection with this number.
     pub connection: Option<u64>,
 }
@@ -26,15 +49,49 @@ impl ExchangeFilter {
         slow: None,
         errors: false,
         opcode: None,
+        client: None,
+        node: None,
         connection: None,
     };
 
-    /// Whether what is reported of the connection with this number is shown.
-    pub fn shows<A: Allocator>(&self, number: u64, report: &Report<A>) -> bool {
-        is_of(self.connection, number)
+    /// Whether what is reported of this connection is shown.
+    pub(crate) fn shows<A: Allocator>(&self, connection: &Connection, report: &Report<A>) -> bool {
+        is_of(self.connection, connection.number)
+            && self.is_between(&connection.ends)
             && is_slow(self.slow, report)
             && (!self.errors || is_trouble(report))
             && is_asking(self.opcode, report)
+    }
+
+    /// Whether the ends of a connection are those that are asked for.
+    fn is_between(&self, ends: &Ends) -> bool {
+        is_at(self.client, ends.client) && is_at(self.node, ends.node)
+    }
+}
+
+/// Whether an end is asked for.
+fn is_at(asked: Option<EndFilter>, end: Endpoint) -> bool {
+    match asked {
+        Some(one) => one.is_end(end),
+        None => true,
+    }
+}
+
+/// Whether a host has this address.
+fn is_host(asked: IpAddr, address: Address) -> bool {
+    match (asked, address) {
+        (IpAddr::V4(asked), Address::V4(octets)) => same_bytes(&asked.octets(), &octets),
+        (IpAddr::V6(asked), Address::V6(octets)) => same_bytes(&asked.octets(), &octets),
+        (IpAddr::V4(_), Address::V6(_)) => false,
+        (IpAddr::V6(_), Address::V4(_)) => false,
+    }
+}
+
+/// Whether a port is asked for.
+fn is_port(asked: Option<u16>, port: u16) -> bool {
+    match asked {
+        Some(one) => one == port,
+        None => true,
     }
 }
 

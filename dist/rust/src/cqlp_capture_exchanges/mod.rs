@@ -27,7 +27,7 @@ mod table;
 
 pub(crate) use capturing::{write_exchanges};
 pub use exchanges::Exchanges;
-pub use filter::ExchangeFilter;
+pub use filter::{EndFilter, ExchangeFilter};
 pub use form::ExchangeForm;
 pub use naming::Naming;
 pub use pool::ExchangeLimits;

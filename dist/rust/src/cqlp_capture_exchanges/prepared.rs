@@ -27,7 +27,7 @@ impl<A: Allocator> Preparation<A> {
     }
 }
 
-fn same_bytes(a: &[u8], b: &[u8]) -> bool {
+pub(crate) fn same_bytes(a: &[u8], b: &[u8]) -> bool {
     a == b
 }
 

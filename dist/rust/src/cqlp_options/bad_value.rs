@@ -8,6 +8,10 @@ pub(crate) enum BadValue {
     Range,
     /// No request has an opcode of this name.
     Opcode,
+    /// A client is not named by an address.
+    Client,
+    /// A node is not named by an address.
+    Node,
 }
 
 impl BadValue {
@@ -18,6 +22,12 @@ impl BadValue {
             BadValue::Opcode => {
                 "invalid value for '--opcode <NAME>': it is none of STARTUP, OPTIONS, QUERY, PREPARE, EXECUTE, BATCH, REGISTER and \
                  AUTH_RESPONSE"
+            }
+            BadValue::Client => {
+                "invalid value for '--client <ADDRESS>': it is no ADDRESS, and no ADDRESS:PORT or [ADDRESS]:PORT"
+            }
+            BadValue::Node => {
+                "invalid value for '--node <ADDRESS>': it is no ADDRESS, and no ADDRESS:PORT or [ADDRESS]:PORT"
             }
         }
     }

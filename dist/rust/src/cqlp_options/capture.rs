@@ -2,6 +2,7 @@
 //! What is asked for with a capture.
 
 use crate::cqlp_options::bad_value::BadValue;
+use crate::cqlp_options::end::{AskedEnd, end};
 use crate::cqlp_options::limits::CaptureLimits;
 use crate::cqlp_options::matched::{flag, long_number, number, path};
 use crate::clap::ArgMatches;
@@ -85,6 +86,10 @@ pub struct ExchangeOptions {
     pub errors: bool,
     /// Requests with this opcode alone.
     pub opcode: Option<Opcode>,
+    /// Those of connections of this client alone.
+    pub client: Option<AskedEnd>,
+    /// Those of connections of this node alone.
+    pub node: Option<AskedEnd>,
     /// Those of the connection with this number alone; the first has the number 1.
     pub connection: Option<u64>,
     pub form: ExchangesAs,
@@ -93,10 +98,14 @@ pub struct ExchangeOptions {
 impl ExchangeOptions {
     fn matched(matches: &ArgMatches<'_>) -> Result<ExchangeOptions, BadValue> {
         let opcode = opcode_of(matches)?;
+        let client = end(matches, "client").or(Err(BadValue::Client))?;
+        let node = end(matches, "node").or(Err(BadValue::Node))?;
         Ok(ExchangeOptions {
             slow: number(matches, "slow"),
             errors: flag(matches, "errors"),
             opcode,
+            client,
+            node,
             connection: long_number(matches, "connection"),
             form: ExchangesAs::matched(matches),
         })

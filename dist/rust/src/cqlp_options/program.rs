@@ -311,7 +311,7 @@ const ALL: LimitRange = LimitRange {
 
 /// What `capture` takes. The help of a limit has its range and what the number is where it is not given, and docs/check compares both
 /// with `CaptureLimits`.
-const CAPTURE: [Word; 17] = [
+const CAPTURE: [Word; 19] = [
     Word {
         name: "file",
         form: Form::File,
@@ -348,6 +348,20 @@ const CAPTURE: [Word; 17] = [
         without: &[],
     },
     Word {
+        name: "client",
+        form: Form::Text("ADDRESS"),
+        help: "Only what is told of connections of the client with this address; ADDRESS:PORT, of IPv6 [ADDRESS]:PORT, names its port too",
+        with: &[],
+        without: &[],
+    },
+    Word {
+        name: "node",
+        form: Form::Text("ADDRESS"),
+        help: "Only what is told of connections of the node with this address; ADDRESS:PORT, of IPv6 [ADDRESS]:PORT, names its port too",
+        with: &[],
+        without: &[],
+    },
+    Word {
         name: "connection",
         form: Form::Place,
         help: "Only what is told of the connection with this number; the first has the number 1",
@@ -359,7 +373,16 @@ const CAPTURE: [Word; 17] = [
         form: Form::Text("DIR"),
         help: "The folder for the files N.requests.bin and N.responses.bin of connection N",
         with: &[],
-        without: &["slow", "errors", "opcode", "connection", "open", "text"],
+        without: &[
+            "slow",
+            "errors",
+            "opcode",
+            "client",
+            "node",
+            "connection",
+            "open",
+            "text",
+        ],
     },
     Word {
         name: "json",
@@ -389,7 +412,8 @@ const CAPTURE: [Word; 17] = [
         help: "A line for each event of each frame, after the connection's number and > of a request or < of a response",
         with: &[],
         without: &[
-            "slow", "errors", "opcode", "json", "summary", "streams", "open", "text",
+            "slow", "errors", "opcode", "client", "node", "json", "summary", "streams", "open",
+            "text",
         ],
     },
     Word {
@@ -398,7 +422,8 @@ const CAPTURE: [Word; 17] = [
         help: "The pages of the connection that --connection names, as cqlp rows writes them",
         with: &["connection"],
         without: &[
-            "slow", "errors", "opcode", "json", "summary", "events", "streams", "open", "text",
+            "slow", "errors", "opcode", "client", "node", "json", "summary", "events", "streams",
+            "open", "text",
         ],
     },
     Word {

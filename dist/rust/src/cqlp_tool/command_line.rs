@@ -8,14 +8,14 @@ use crate::cqlp_tool::limits::{exchange_limits_of, streams_limits_of};
 use crate::cqlp_tool::marks::MARK;
 use crate::cqlp_tool::progress::Progress;
 use crate::cqlp_capture_events::write_events;
-use crate::cqlp_capture_exchanges::{ExchangeFilter, ExchangeForm, Naming, write_exchanges};
+use crate::cqlp_capture_exchanges::{EndFilter, ExchangeFilter, ExchangeForm, Naming, write_exchanges};
 use crate::cqlp_capture_rows::write_rows;
 use crate::cqlp_capture_streams::{Buffering, StreamsLimits, write_streams};
 use crate::cqlp_decode::SinkFault;
 use crate::cqlp_note::{OfStd, Source, Target};
 use crate::cqlp_options::{
-    AtRefusal, CaptureOptions, CaptureTask, CommandLine, DEFAULT_LIMITS, EventsAs, ExchangeOptions,
-    ExchangesAs, NoTask, Options, RowsAs, Task,
+    AskedEnd, AtRefusal, CaptureOptions, CaptureTask, CommandLine, DEFAULT_LIMITS, EventsAs,
+    ExchangeOptions, ExchangesAs, NoTask, Options, RowsAs, Task,
 };
 use crate::cqlp_render::{TextForm, check, conclude, show, show_as};
 use crate::cqlp_render_skip::{check_skipping, show_skipping};
@@ -227,6 +227,8 @@ fn filter_of(asked: ExchangeOptions) -> ExchangeFilter {
         slow,
         errors,
         opcode,
+        client,
+        node,
         connection,
         form: _,
     } = asked;
@@ -234,7 +236,16 @@ fn filter_of(asked: ExchangeOptions) -> ExchangeFilter {
         slow: slow.map(|ms| u64::from(ms) * NANOSECONDS_PER_MILLISECOND),
         errors,
         opcode,
+        client: client.map(end_filter_of),
+        node: node.map(end_filter_of),
         connection,
+    }
+}
+
+fn end_filter_of(asked: AskedEnd) -> EndFilter {
+    EndFilter {
+        address: asked.address,
+        port: asked.port,
     }
 }
 

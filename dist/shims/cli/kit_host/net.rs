@@ -2,7 +2,7 @@
 use super::rt::HostRuntime;
 use std::io::{self, Read, Write};
 use std::net::ToSocketAddrs;
-pub use std::net::{Ipv4Addr, Ipv6Addr, SocketAddr};
+pub use std::net::{IpAddr, Ipv4Addr, Ipv6Addr, SocketAddr};
 
 pub trait Net {
     type Listener;
