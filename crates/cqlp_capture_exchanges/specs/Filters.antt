@@ -20,7 +20,7 @@ use Rattle.cqlp_capture_exchanges.specs.declared.filter.EndFilter.{EndFilter}
 use Rattle.cqlp_capture_exchanges.specs.declared.filter.ExchangeFilter.{ExchangeFilter}
 use Rattle.cqlp_capture_exchanges.specs.Reports.{Report, Messages, Unread}
 use Rattle.cqlp_capture_exchanges.specs.declared.span.Span.{Span}
-use Rattle.cqlp_capture_exchanges.specs.Spans.{is_short, took}
+use Rattle.cqlp_capture_exchanges.specs.Spans.{is_short, time_between, took}
 
 -- ---- with the number that is asked for: of the connection, or the port of an end
 
@@ -102,9 +102,36 @@ abbrev pub is_asking : (asked : Option Opcode) → Report → Bool
 is_asking None r = true
 is_asking (Some o) r = reported_asking o r
 
+-- ---- Its first byte came at a time that is asked for, since the first packet.
+
+abbrev pub begun_in : Paired Kept → Option ℕ
+begun_in (Exchange request response) = request.frame.begun
+begun_in (Unanswered request) = request.frame.begun
+begun_in (Unasked response) = response.frame.begun
+begun_in (Event event) = event.frame.begun
+
+abbrev pub begun : Report → Option ℕ
+begun (Messages t end) = begun_in t
+begun (Unread time o) = time
+
+abbrev pub is_since : (asked : Option ℕ) → Option Span → Bool
+is_since None time = true
+is_since (Some least) time = is_at_least least time
+
+abbrev pub is_at_most : (most : ℕ) → Option Span → Bool
+is_at_most most None = false
+is_at_most most (Some s) = s.is_before || nat_le s.nanoseconds most
+
+abbrev pub is_until : (asked : Option ℕ) → Option Span → Bool
+is_until None time = true
+is_until (Some most) time = is_at_most most time
+
+abbrev pub is_within : ExchangeFilter → Option Span → Bool
+is_within f time = is_since f.since time && is_until f.until time
+
 -- ---- all that is asked for
 
-abbrev pub shows : ExchangeFilter → Connection → Report → Bool
-shows f n r =
+abbrev pub shows : ExchangeFilter → (first : Option ℕ) → Connection → Report → Bool
+shows f first n r =
     is_of f.connection n.number && is_between f n.ends && is_slow f.slow r
-    && (not f.errors || is_trouble r) && is_asking f.opcode r
+    && (not f.errors || is_trouble r) && is_asking f.opcode r && is_within f (time_between first (begun r))

@@ -2,13 +2,13 @@
 
 ghost use Rattle.std.specs.Prelude.{◌≡◌};
 ghost use Rattle.cqlp_capture_exchanges.specs.Reports.{report_of};
-ghost use Rattle.cqlp_capture_exchanges.specs.Filters.{asks, has_failed, has_opcode, is_asking, is_at, is_at_least, is_between, is_end, is_error, is_failure, is_host};
-ghost use Rattle.cqlp_capture_exchanges.specs.Filters.{is_of, is_slow, is_trouble, reported_asking, reported_slow, took_at_least};
+ghost use Rattle.cqlp_capture_exchanges.specs.Filters.{asks, begun, begun_in, has_failed, has_opcode, is_asking, is_at, is_at_least, is_between, is_end, is_error, is_failure, is_host};
+ghost use Rattle.cqlp_capture_exchanges.specs.Filters.{is_at_most, is_of, is_since, is_slow, is_trouble, is_until, is_within, reported_asking, reported_slow, took_at_least};
 
 use crate::connection::Connection;
 use crate::prepared::same_bytes;
 use crate::report::Report;
-use crate::span::{Span, is_short, took};
+use crate::span::{Span, is_short, time_between, took};
 use cqlp_note::Opcode;
 use cqlp_observer::{Frame, Kept, Paired};
 use cqlp_tcp_connections::Ends;
@@ -45,6 +45,10 @@ pub struct ExchangeFilter {
     pub client: Option<EndFilter>,
     /// Only what is reported of connections with such a node.
     pub node: Option<EndFilter>,
+    /// Only what began at least so many nanoseconds after the first packet.
+    pub since: Option<u64>,
+    /// Only what began at most so many nanoseconds after the first packet.
+    pub until: Option<u64>,
     /// Only what is reported of the connection with this number.
     pub connection: Option<u64>,
 }
@@ -59,18 +63,33 @@ impl ExchangeFilter {
         opcode: None,
         client: None,
         node: None,
+        since: None,
+        until: None,
         connection: None,
     };
 
-    /// Whether what is reported of this connection is shown.
-    pub(crate) fn shows<A: Allocator>(&self, connection: &Connection, report: &Report<A>) -> bool
-        ensures { result ≡ shows self.now connection.now (report_of report.now) }
+    /// Whether what is reported of this connection is shown, in a capture whose first packet came at this time.
+    pub(crate) fn shows<A: Allocator>(
+        &self,
+        first: Option<u64>,
+        connection: &Connection,
+        report: &Report<A>,
+    ) -> bool
+        ensures { result ≡ shows self.now first connection.now (report_of report.now) }
     {
         is_of(self.connection, connection.number)
             && self.is_between(&connection.ends)
             && is_slow(self.slow, report)
             && (!self.errors || is_trouble(report))
             && is_asking(self.opcode, report)
+            && self.is_within(time_between(first, begun(report)))
+    }
+
+    /// Whether this is a time that is asked for.
+    fn is_within(&self, time: Option<Span>) -> bool
+        ensures { result ≡ is_within self.now time }
+    {
+        is_since(self.since, time) && is_until(self.until, time)
     }
 
     /// Whether the ends of a connection are those that are asked for.
@@ -228,4 +247,52 @@ fn has_opcode(opcode: Opcode, frame: &Frame) -> bool
     ensures { result ≡ has_opcode opcode frame.now }
 {
     frame.header.opcode.number() == opcode.number()
+}
+
+/// When the first byte of what is reported came.
+fn begun<A: Allocator>(report: &Report<A>) -> Option<u64>
+    ensures { result ≡ begun (report_of report.now) }
+{
+    match report {
+        Report::Messages { paired, .. } => begun_in(paired),
+        Report::Unread { time, .. } => *time,
+    }
+}
+
+fn begun_in<A: Allocator>(exchange: &Paired<Kept<A>>) -> Option<u64>
+    ensures { result ≡ begun_in exchange.now }
+{
+    match exchange {
+        Paired::Exchange { request, .. } => request.frame.begun,
+        Paired::Unanswered { request } => request.frame.begun,
+        Paired::Unasked { response } => response.frame.begun,
+        Paired::Event { event } => event.frame.begun,
+    }
+}
+
+fn is_since(asked: Option<u64>, time: Option<Span>) -> bool
+    ensures { result ≡ is_since asked time }
+{
+    match asked {
+        Some(least) => is_at_least(least, time),
+        None => true,
+    }
+}
+
+fn is_until(asked: Option<u64>, time: Option<Span>) -> bool
+    ensures { result ≡ is_until asked time }
+{
+    match asked {
+        Some(most) => is_at_most(most, time),
+        None => true,
+    }
+}
+
+fn is_at_most(most: u64, time: Option<Span>) -> bool
+    ensures { result ≡ is_at_most most time }
+{
+    match time {
+        Some(span) => span.is_before || span.nanoseconds <= most,
+        None => false,
+    }
 }

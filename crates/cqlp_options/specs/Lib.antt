@@ -6,4 +6,5 @@ pub mod NoTasks
 pub mod Ports
 pub mod Program
 pub mod Reported
+pub mod Seconds
 pub mod Tables

@@ -6,6 +6,7 @@ use Rattle.cqlp_note.specs.declared.opcode.Opcode.{Opcode}
 use Rattle.cqlp_text.specs.Names.{opcode_name}
 use Rattle.cqlp_options.specs.Ends.{NamesEnd}
 use Rattle.cqlp_options.specs.Program.{program}
+use Rattle.cqlp_options.specs.Seconds.{nanoseconds_of}
 use Rattle.cqlp_options.specs.declared.capture.CaptureOptions.{CaptureOptions}
 use Rattle.cqlp_options.specs.declared.capture.CaptureTask.{CaptureTask}
 use Rattle.cqlp_options.specs.declared.capture.CaptureTask.TheVariants as capture
@@ -61,6 +62,11 @@ abbrev pub IsEnd : (option : Text) → List Row → Option AskedEnd → Type 0
 IsEnd option rows None = first_of option rows ≡ None
 IsEnd option rows (Some e) = IsSomeAnd (first_of option rows) (λ text. NamesEnd text e)
 
+-- the nanoseconds in the time that is given in seconds, if one is
+abbrev pub IsTime : (option : Text) → List Row → Option ℕ → Type 0
+IsTime option rows None = first_of option rows ≡ None
+IsTime option rows (Some n) = IsSomeAnd (first_of option rows) (λ text. nanoseconds_of text ≡ Some n)
+
 -- a path
 abbrev pub IsPath : (option : Text) → List Row → Text → Type 0
 IsPath option rows path = first_of option rows ≡ Some path
@@ -114,6 +120,8 @@ pub record AreExchanges (rows : List Row) (asked : ExchangeOptions) : Type 0 whe
   pub opcode : IsOpcode (codes "opcode") rows asked.opcode
   pub client : IsEnd (codes "client") rows asked.client
   pub node : IsEnd (codes "node") rows asked.node
+  pub since : IsTime (codes "from") rows asked.since
+  pub until : IsTime (codes "to") rows asked.until
   pub connection : IsNumber 64 (codes "connection") rows asked.connection
   pub form : IsExchangesForm rows asked.form
 

@@ -59,6 +59,8 @@ capture =
     ∷ named (codes "opcode")
     ∷ named (codes "client")
     ∷ named (codes "node")
+    ∷ named (codes "from")
+    ∷ named (codes "to")
     ∷ from_one (named (codes "connection"))
     ∷ bound (named (codes "streams"))
     ∷ bound (flag (codes "json"))

@@ -11,6 +11,10 @@ pub(crate) enum BadValue {
     Client,
     /// A node is not named by an address.
     Node,
+    /// What is to be the earliest time is none.
+    From,
+    /// What is to be the latest time is none.
+    To,
 }
 
 impl BadValue {
@@ -27,6 +31,12 @@ impl BadValue {
             }
             BadValue::Node => {
                 "invalid value for '--node <ADDRESS>': it is no ADDRESS, and no ADDRESS:PORT or [ADDRESS]:PORT"
+            }
+            BadValue::From => {
+                "invalid value for '--from <SECONDS>': it is no number of seconds with up to nine digits after the point"
+            }
+            BadValue::To => {
+                "invalid value for '--to <SECONDS>': it is no number of seconds with up to nine digits after the point"
             }
         }
     }

@@ -11,6 +11,7 @@ use crate::bad_value::BadValue;
 use crate::end::{AskedEnd, NoEnd, end};
 use crate::limits::CaptureLimits;
 use crate::matched::{flag, long_number, number, path};
+use crate::time::time;
 use clap::ArgMatches;
 use cqlp_note::Opcode;
 
@@ -105,6 +106,10 @@ pub struct ExchangeOptions {
     pub client: Option<AskedEnd>,
     /// Those of connections of this node alone.
     pub node: Option<AskedEnd>,
+    /// Those alone that began so many nanoseconds after the capture's first packet, or later.
+    pub since: Option<u64>,
+    /// Those alone that began so many nanoseconds after the capture's first packet, or earlier.
+    pub until: Option<u64>,
     /// Those of the connection with this number alone; the first has the number 1.
     pub connection: Option<u64>,
     pub form: ExchangesAs,
@@ -117,12 +122,16 @@ impl ExchangeOptions {
         let opcode = opcode_of(matches)?;
         let client = end(matches, "client").or(Err(BadValue::Client))?;
         let node = end(matches, "node").or(Err(BadValue::Node))?;
+        let since = time(matches, "from").or(Err(BadValue::From))?;
+        let until = time(matches, "to").or(Err(BadValue::To))?;
         Ok(ExchangeOptions {
             slow: number(matches, "slow"),
             errors: flag(matches, "errors"),
             opcode,
             client,
             node,
+            since,
+            until,
             connection: long_number(matches, "connection"),
             form: ExchangesAs::matched(matches),
         })

@@ -69,6 +69,8 @@ filter_of asked =
       opcode = asked.opcode;
       client = option_map end_filter_of asked.client;
       node = option_map end_filter_of asked.node;
+      since = asked.since;
+      until = asked.until;
       connection = asked.connection;
     }
 

@@ -295,6 +295,8 @@ fn filter_of(asked: ExchangeOptions) -> ExchangeFilter
         opcode,
         client,
         node,
+        since,
+        until,
         connection,
         form: _,
     } = asked;
@@ -304,6 +306,8 @@ fn filter_of(asked: ExchangeOptions) -> ExchangeFilter
         opcode,
         client: client.map(end_filter_of),
         node: node.map(end_filter_of),
+        since,
+        until,
         connection,
     }
 }

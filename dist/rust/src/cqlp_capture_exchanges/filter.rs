@@ -4,7 +4,7 @@
 use crate::cqlp_capture_exchanges::connection::Connection;
 use crate::cqlp_capture_exchanges::prepared::same_bytes;
 use crate::cqlp_capture_exchanges::report::Report;
-use crate::cqlp_capture_exchanges::span::{Span, is_short, took};
+use crate::cqlp_capture_exchanges::span::{Span, is_short, time_between, took};
 use crate::cqlp_note::Opcode;
 use crate::cqlp_observer::{Frame, Kept, Paired};
 use crate::cqlp_tcp_connections::Ends;
@@ -39,6 +39,10 @@ pub struct ExchangeFilter {
     pub client: Option<EndFilter>,
     /// Only what is reported of connections with such a node.
     pub node: Option<EndFilter>,
+    /// Only what began at least so many nanoseconds after the first packet.
+    pub since: Option<u64>,
+    /// Only what began at most so many nanoseconds after the first packet.
+    pub until: Option<u64>,
     /// Only what is reported of the connection with this number.
     pub connection: Option<u64>,
 }
@@ -51,16 +55,29 @@ impl ExchangeFilter {
         opcode: None,
         client: None,
         node: None,
+        since: None,
+        until: None,
         connection: None,
     };
 
-    /// Whether what is reported of this connection is shown.
-    pub(crate) fn shows<A: Allocator>(&self, connection: &Connection, report: &Report<A>) -> bool {
+    /// Whether what is reported of this connection is shown, in a capture whose first packet came at this time.
+    pub(crate) fn shows<A: Allocator>(
+        &self,
+        first: Option<u64>,
+        connection: &Connection,
+        report: &Report<A>,
+    ) -> bool {
         is_of(self.connection, connection.number)
             && self.is_between(&connection.ends)
             && is_slow(self.slow, report)
             && (!self.errors || is_trouble(report))
             && is_asking(self.opcode, report)
+            && self.is_within(time_between(first, begun(report)))
+    }
+
+    /// Whether this is a time that is asked for.
+    fn is_within(&self, time: Option<Span>) -> bool {
+        is_since(self.since, time) && is_until(self.until, time)
     }
 
     /// Whether the ends of a connection are those that are asked for.
@@ -184,4 +201,42 @@ fn asks<A: Allocator>(opcode: Opcode, exchange: &Paired<Kept<A>>) -> bool {
 
 fn has_opcode(opcode: Opcode, frame: &Frame) -> bool {
     frame.header.opcode.number() == opcode.number()
+}
+
+/// When the first byte of what is reported came.
+fn begun<A: Allocator>(report: &Report<A>) -> Option<u64> {
+    match report {
+        Report::Messages { paired, .. } => begun_in(paired),
+        Report::Unread { time, .. } => *time,
+    }
+}
+
+fn begun_in<A: Allocator>(exchange: &Paired<Kept<A>>) -> Option<u64> {
+    match exchange {
+        Paired::Exchange { request, .. } => request.frame.begun,
+        Paired::Unanswered { request } => request.frame.begun,
+        Paired::Unasked { response } => response.frame.begun,
+        Paired::Event { event } => event.frame.begun,
+    }
+}
+
+fn is_since(asked: Option<u64>, time: Option<Span>) -> bool {
+    match asked {
+        Some(least) => is_at_least(least, time),
+        None => true,
+    }
+}
+
+fn is_until(asked: Option<u64>, time: Option<Span>) -> bool {
+    match asked {
+        Some(most) => is_at_most(most, time),
+        None => true,
+    }
+}
+
+fn is_at_most(most: u64, time: Option<Span>) -> bool {
+    match time {
+        Some(span) => span.is_before || span.nanoseconds <= most,
+        None => false,
+    }
 }

@@ -11,6 +11,7 @@ mod no_task;
 mod options;
 mod program;
 mod reported;
+mod time;
 
 pub use capture::{CaptureOptions, CaptureTask, ExchangeOptions, ExchangesAs, MOST_PORTS, Ports};
 pub use command_line::{CommandLine, QUERIES};

@@ -311,7 +311,7 @@ const ALL: LimitRange = LimitRange {
 
 /// What `capture` takes. The help of a limit has its range and what the number is where it is not given, and docs/check compares both
 /// with `CaptureLimits`.
-const CAPTURE: [Word; 19] = [
+const CAPTURE: [Word; 21] = [
     Word {
         name: "file",
         form: Form::File,
@@ -362,6 +362,20 @@ const CAPTURE: [Word; 19] = [
         without: &[],
     },
     Word {
+        name: "from",
+        form: Form::Text("SECONDS"),
+        help: "Only what begins at this time or later, as the lines have it: in seconds since the first packet",
+        with: &[],
+        without: &[],
+    },
+    Word {
+        name: "to",
+        form: Form::Text("SECONDS"),
+        help: "Only what begins at this time or earlier, as the lines have it: in seconds since the first packet",
+        with: &[],
+        without: &[],
+    },
+    Word {
         name: "connection",
         form: Form::Place,
         help: "Only what is told of the connection with this number; the first has the number 1",
@@ -379,6 +393,8 @@ const CAPTURE: [Word; 19] = [
             "opcode",
             "client",
             "node",
+            "from",
+            "to",
             "connection",
             "open",
             "text",
@@ -412,8 +428,8 @@ const CAPTURE: [Word; 19] = [
         help: "A line for each event of each frame, after the connection's number and > of a request or < of a response",
         with: &[],
         without: &[
-            "slow", "errors", "opcode", "client", "node", "json", "summary", "streams", "open",
-            "text",
+            "slow", "errors", "opcode", "client", "node", "from", "to", "json", "summary",
+            "streams", "open", "text",
         ],
     },
     Word {
@@ -422,8 +438,8 @@ const CAPTURE: [Word; 19] = [
         help: "The pages of the connection that --connection names, as cqlp rows writes them",
         with: &["connection"],
         without: &[
-            "slow", "errors", "opcode", "client", "node", "json", "summary", "events", "streams",
-            "open", "text",
+            "slow", "errors", "opcode", "client", "node", "from", "to", "json", "summary",
+            "events", "streams", "open", "text",
         ],
     },
     Word {

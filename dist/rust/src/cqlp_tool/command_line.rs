@@ -229,6 +229,8 @@ fn filter_of(asked: ExchangeOptions) -> ExchangeFilter {
         opcode,
         client,
         node,
+        since,
+        until,
         connection,
         form: _,
     } = asked;
@@ -238,6 +240,8 @@ fn filter_of(asked: ExchangeOptions) -> ExchangeFilter {
         opcode,
         client: client.map(end_filter_of),
         node: node.map(end_filter_of),
+        since,
+        until,
         connection,
     }
 }

@@ -1,0 +1,89 @@
+//! Times in seconds.
+
+ghost use Rattle.std.specs.Prelude.{◌≡◌, ◌≤◌, ◌*◌, ◌+◌, ◌-◌, IfOk, IfSome, Some};
+ghost use Rattle.clap.specs.Words.{found_of, rows_of};
+ghost use Rattle.cqlp_options.specs.Matched.{IsTime};
+ghost use Rattle.cqlp_options.specs.Seconds.{is_digit, nanoseconds_of, with_digits, with_places};
+
+use crate::matched::path;
+use clap::ArgMatches;
+
+/// A text is no time.
+#[derive(Clone, Copy, Debug, PartialEq, Eq)]
+pub(crate) struct NoTime;
+
+/// The nanoseconds in the time that an option gives in seconds, if it is given.
+pub(crate) fn time(matches: &ArgMatches<'_>, option: &str) -> Result<Option<u64>, NoTime>
+    ensures { IfOk result (IsTime option.now (rows_of (found_of matches.now))) }
+{
+    match path(matches, option) {
+        Some(text) => {
+            let nanoseconds = nanoseconds_of(text.as_bytes()).ok_or(NoTime)?;
+            Ok(Some(nanoseconds))
+        }
+        None => Ok(None),
+    }
+}
+
+/// The nanoseconds in so many seconds, with up to nine digits after the point.
+fn nanoseconds_of(text: &[u8]) -> Option<u64>
+    ensures { IfSome result (λ n. nanoseconds_of text.now ≡ Some n) }
+{
+    let [first, rest @ ..] = text else {
+        return None;
+    };
+    if is_digit(*first) {
+        with_digits(u64::from(*first - b'0'), rest)
+    } else {
+        None
+    }
+}
+
+fn is_digit(c: u8) -> bool
+    ensures { result ≡ is_digit c }
+{
+    b'0' <= c && c <= b'9'
+}
+
+/// A number, with one more digit.
+fn with_digit(n: u64, c: u8) -> Option<u64>
+    requires { 48 ≤ c }
+    ensures { IfSome result (λ m. m ≡ n * 10 + (c - 48)) }
+{
+    n.checked_mul(10)?.checked_add(u64::from(c - b'0'))
+}
+
+/// The nanoseconds in these seconds, with further digits.
+fn with_digits(whole: u64, text: &[u8]) -> Option<u64>
+    ensures { IfSome result (λ n. with_digits whole text.now ≡ Some n) }
+{
+    let mut n = whole;
+    for at in 0..text.len() {
+        let c = text[at];
+        if c == b'.' {
+            return with_places(n, &text[at + 1..]);
+        }
+        if !is_digit(c) {
+            return None;
+        }
+        n = with_digit(n, c)?;
+    }
+    with_places(n, &[])
+}
+
+/// The nanoseconds in these seconds, with these digits behind the point.
+fn with_places(whole: u64, text: &[u8]) -> Option<u64>
+    ensures { IfSome result (λ n. with_places 9 whole text.now ≡ Some n) }
+{
+    let mut n = whole;
+    let mut places: u32 = 9;
+    for at in 0..text.len() {
+        let c = text[at];
+        if !is_digit(c) || places == 0 {
+            return None;
+        }
+        places -= 1;
+        n = with_digit(n, c)?;
+    }
+    n.checked_mul(10_u64.checked_pow(places)?)
+}
