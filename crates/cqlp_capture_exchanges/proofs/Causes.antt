@@ -30,7 +30,7 @@ either true x y n p q = p
 either false x y n p q = q
 
 reported_keeps : (n : Connection) (t : Report) (a : Account) → (with_reported n t a).output.failures ≡ a.output.failures
-reported_keeps n t a = either (shows a.filter a.first n t) _ (with_count t a) a.output.failures refl refl
+reported_keeps n t a = either (shows a.filter a.known a.first n t) _ (with_count t a) a.output.failures refl refl
 
 all_keeps : (n : Connection) (ts : List Report) (a : Account) → (with_all n ts a).output.failures ≡ a.output.failures
 all_keeps n [] a = refl

@@ -9,3 +9,4 @@ pub mod Talks
 pub mod Texts
 pub mod WrittenOnce
 pub mod Pooled
+mod Parts

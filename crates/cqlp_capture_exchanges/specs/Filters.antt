@@ -1,5 +1,5 @@
 -- Which exchanges are shown.
-use Rattle.std.specs.Prelude.{ℕ, Bool, true, false, not, ◌&&◌, ◌||◌, ◌==◌, nat_le, Option, Some, None}
+use Rattle.std.specs.Prelude.{ℕ, Bool, true, false, not, ◌&&◌, ◌||◌, ◌==◌, nat_le, List, Option, Some, None}
 use Rattle.std.specs.Net.Addr.{ipv4_octets, ipv6_octets}
 use Rattle.std.specs.Str.{bytes_eq}
 use Rattle.std.specs.declared.net.ip_addr.IpAddr.{IpAddr}
@@ -9,6 +9,7 @@ use Rattle.cqlp_note.specs.declared.opcode.Opcode.TheVariants as opcode
 use Rattle.cqlp_note.specs.Heading.{code_of}
 use Rattle.cqlp_observer.specs.Keeping.{Kept}
 use Rattle.cqlp_observer.specs.declared.message.Frame.{Frame}
+use Rattle.cqlp_observer.specs.declared.message.Message.{Message}
 use Rattle.cqlp_observer.specs.declared.paired.Paired.{Paired}
 use Rattle.cqlp_observer.specs.declared.paired.Paired.TheVariants.{Exchange, Unanswered, Unasked, Event}
 use Rattle.cqlp_tcp_segment.specs.declared.addresses.Address.{Address}
@@ -18,7 +19,11 @@ use Rattle.cqlp_tcp_connections.specs.declared.ends.Ends.{Ends}
 use Rattle.cqlp_capture_exchanges.specs.declared.connection.Connection.{Connection}
 use Rattle.cqlp_capture_exchanges.specs.declared.filter.EndFilter.{EndFilter}
 use Rattle.cqlp_capture_exchanges.specs.declared.filter.ExchangeFilter.{ExchangeFilter}
+use Rattle.cqlp_capture_exchanges.specs.declared.part.StatementPart.{StatementPart}
+use Rattle.cqlp_capture_exchanges.specs.Parts.{bytes_of, is_part}
+use Rattle.cqlp_capture_exchanges.specs.Prepared.{named, Preparation}
 use Rattle.cqlp_capture_exchanges.specs.Reports.{Report, Messages, Unread}
+use Rattle.cqlp_capture_exchanges.specs.Statements.{Said, Text, Id, statement}
 use Rattle.cqlp_capture_exchanges.specs.declared.span.Span.{Span}
 use Rattle.cqlp_capture_exchanges.specs.Spans.{is_short, time_between, took}
 
@@ -129,9 +134,34 @@ is_until (Some most) time = is_at_most most time
 abbrev pub is_within : ExchangeFilter → Option Span → Bool
 is_within f time = is_since f.since time && is_until f.until time
 
+-- ---- The text of its statement, as far as it is known, has the part that is asked for.
+
+abbrev pub says : (part : List ℕ) → Option Said → Bool
+says part None = false
+says part (Some (Text text is_whole)) = is_part part text
+says part (Some (Id id is_whole)) = false
+
+abbrev pub request_says : (known : List Preparation) → (part : List ℕ) → Message Kept → Bool
+request_says known part m = says part (named known (statement m.frame.header m.kept.front))
+
+abbrev pub paired_says : (known : List Preparation) → (part : List ℕ) → Paired Kept → Bool
+paired_says known part (Exchange request response) = request_says known part request
+paired_says known part (Unanswered request) = request_says known part request
+paired_says known part (Unasked response) = false
+paired_says known part (Event event) = false
+
+abbrev pub reported_saying : (known : List Preparation) → (part : List ℕ) → Report → Bool
+reported_saying known part (Messages t end) = paired_says known part t
+reported_saying known part (Unread time o) = false
+
+abbrev pub is_saying : (asked : Option StatementPart) → (known : List Preparation) → Report → Bool
+is_saying None known r = true
+is_saying (Some part) known r = reported_saying known (bytes_of part) r
+
 -- ---- all that is asked for
 
-abbrev pub shows : ExchangeFilter → (first : Option ℕ) → Connection → Report → Bool
-shows f first n r =
+abbrev pub shows : ExchangeFilter → (known : List Preparation) → (first : Option ℕ) → Connection → Report → Bool
+shows f known first n r =
     is_of f.connection n.number && is_between f n.ends && is_slow f.slow r
     && (not f.errors || is_trouble r) && is_asking f.opcode r && is_within f (time_between first (begun r))
+    && is_saying f.statement known r

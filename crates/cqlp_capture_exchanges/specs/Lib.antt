@@ -1,11 +1,12 @@
 pub mod Connections
 pub mod Spans
 pub mod Times
-pub mod Filters
 pub mod Statements
 pub mod Replies
 pub mod Reports
 pub mod Prepared
+pub mod Parts
+pub mod Filters
 pub mod Lines
 pub mod Ends
 pub mod Members

@@ -1,16 +1,20 @@
 //! Which exchanges are shown.
 
-ghost use Rattle.std.specs.Prelude.{◌≡◌};
+ghost use Rattle.std.specs.Prelude.{◌≡◌, option_map};
 ghost use Rattle.cqlp_capture_exchanges.specs.Reports.{report_of};
+ghost use Rattle.cqlp_capture_exchanges.specs.Statements.{said_of};
 ghost use Rattle.cqlp_capture_exchanges.specs.Filters.{asks, begun, begun_in, has_failed, has_opcode, is_asking, is_at, is_at_least, is_between, is_end, is_error, is_failure, is_host};
-ghost use Rattle.cqlp_capture_exchanges.specs.Filters.{is_at_most, is_of, is_since, is_slow, is_trouble, is_until, is_within, reported_asking, reported_slow, took_at_least};
+ghost use Rattle.cqlp_capture_exchanges.specs.Filters.{is_at_most, is_of, is_saying, is_since, is_slow, is_trouble, is_until, is_within, paired_says, reported_asking, reported_saying, reported_slow};
+ghost use Rattle.cqlp_capture_exchanges.specs.Filters.{request_says, says, took_at_least};
 
 use crate::connection::Connection;
-use crate::prepared::same_bytes;
+use crate::part::{StatementPart, is_part};
+use crate::prepared::{Preparation, named, same_bytes};
 use crate::report::Report;
 use crate::span::{Span, is_short, time_between, took};
+use crate::statement::{Statement, statement_of};
 use cqlp_note::Opcode;
-use cqlp_observer::{Frame, Kept, Paired};
+use cqlp_observer::{Frame, Kept, Message, Paired};
 use cqlp_tcp_connections::Ends;
 use cqlp_tcp_segment::{Address, Endpoint};
 use std::alloc::Allocator;
@@ -49,6 +53,8 @@ pub struct ExchangeFilter {
     pub since: Option<u64>,
     /// Only what began at most so many nanoseconds after the first packet.
     pub until: Option<u64>,
+    /// Only requests whose statement has this text, as far as it is known.
+    pub statement: Option<StatementPart>,
     /// Only what is reported of the connection with this number.
     pub connection: Option<u64>,
 }
@@ -65,17 +71,19 @@ impl ExchangeFilter {
         node: None,
         since: None,
         until: None,
+        statement: None,
         connection: None,
     };
 
-    /// Whether what is reported of this connection is shown, in a capture whose first packet came at this time.
+    /// Whether what is reported of this connection is shown, where these statements are known and the capture's first packet came at this time.
     pub(crate) fn shows<A: Allocator>(
         &self,
+        known: &[Preparation<A>],
         first: Option<u64>,
         connection: &Connection,
         report: &Report<A>,
     ) -> bool
-        ensures { result ≡ shows self.now first connection.now (report_of report.now) }
+        ensures { result ≡ shows self.now known.now first connection.now (report_of report.now) }
     {
         is_of(self.connection, connection.number)
             && self.is_between(&connection.ends)
@@ -83,6 +91,7 @@ impl ExchangeFilter {
             && (!self.errors || is_trouble(report))
             && is_asking(self.opcode, report)
             && self.is_within(time_between(first, begun(report)))
+            && is_saying(&self.statement, known, report)
     }
 
     /// Whether this is a time that is asked for.
@@ -293,6 +302,64 @@ fn is_at_most(most: u64, time: Option<Span>) -> bool
 {
     match time {
         Some(span) => span.is_before || span.nanoseconds <= most,
+        None => false,
+    }
+}
+
+/// Whether the text of a request's statement has the part that is asked for.
+fn is_saying<A: Allocator>(
+    asked: &Option<StatementPart>,
+    known: &[Preparation<A>],
+    report: &Report<A>,
+) -> bool
+    ensures { result ≡ is_saying asked.now known.now (report_of report.now) }
+{
+    match asked {
+        Some(part) => reported_saying(known, part.as_slice(), report),
+        None => true,
+    }
+}
+
+fn reported_saying<A: Allocator>(known: &[Preparation<A>], part: &[u8], report: &Report<A>) -> bool
+    ensures { result ≡ reported_saying known.now part.now (report_of report.now) }
+{
+    match report {
+        Report::Messages { paired, .. } => paired_says(known, part, paired),
+        Report::Unread { .. } => false,
+    }
+}
+
+fn paired_says<A: Allocator>(
+    known: &[Preparation<A>],
+    part: &[u8],
+    exchange: &Paired<Kept<A>>,
+) -> bool
+    ensures { result ≡ paired_says known.now part.now exchange.now }
+{
+    match exchange {
+        Paired::Exchange { request, .. } => request_says(known, part, request),
+        Paired::Unanswered { request } => request_says(known, part, request),
+        Paired::Unasked { .. } | Paired::Event { .. } => false,
+    }
+}
+
+fn request_says<A: Allocator>(
+    known: &[Preparation<A>],
+    part: &[u8],
+    request: &Message<Kept<A>>,
+) -> bool
+    ensures { result ≡ request_says known.now part.now request.now }
+{
+    let statement = statement_of(&request.frame.header, request.kept.front());
+    says(part, named(known, statement))
+}
+
+fn says(part: &[u8], statement: Option<Statement<'_>>) -> bool
+    ensures { result ≡ says part.now (option_map said_of statement.entry) }
+{
+    match statement {
+        Some(Statement::Text { text, .. }) => is_part(part, text.as_bytes()),
+        Some(Statement::Id { .. }) => false,
         None => false,
     }
 }

@@ -112,7 +112,10 @@ impl<O: Target, A: Allocator> Reporter<O, A> {
         ensures { IsSome self.old.output.given → ReportsOne connection.now (report_of report.now) self.old result self.new }
     {
         self.sums.count(report);
-        if self.filter.shows(self.first, connection, report) {
+        if self
+            .filter
+            .shows(&self.known, self.first, connection, report)
+        {
             note(&mut self.summary, self.form, &self.known, report);
             put_report(
                 &mut self.writer,

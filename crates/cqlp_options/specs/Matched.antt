@@ -1,5 +1,6 @@
 -- What a command line asks for, by its words. `rows` are what the parser found at the names of a task's options.
 use Rattle.std.specs.Prelude.{◌≡◌, ℕ, ◌^◌, ◌<◌, Bool, true, false, not, List, Option, Some, None, IfSome, IsSomeAnd, codes, option_map, unwrap_or}
+use Rattle.std.specs.Borrow.{Bor}
 use Rattle.std.specs.Str.Parse.{IsNumeral, digits_value, without_leading_plus}
 use Rattle.clap.specs.Words.{Row, Text, first_of, one_of, subcommand_of}
 use Rattle.cqlp_note.specs.declared.opcode.Opcode.{Opcode}
@@ -67,6 +68,10 @@ abbrev pub IsTime : (option : Text) → List Row → Option ℕ → Type 0
 IsTime option rows None = first_of option rows ≡ None
 IsTime option rows (Some n) = IsSomeAnd (first_of option rows) (λ text. nanoseconds_of text ≡ Some n)
 
+-- the text that is given
+abbrev pub IsText : (option : Text) → List Row → Option (Bor Text) → Type 0
+IsText option rows text = option_map (λ t. t.now) text ≡ first_of option rows
+
 -- a path
 abbrev pub IsPath : (option : Text) → List Row → Text → Type 0
 IsPath option rows path = first_of option rows ≡ Some path
@@ -122,6 +127,7 @@ pub record AreExchanges (rows : List Row) (asked : ExchangeOptions) : Type 0 whe
   pub node : IsEnd (codes "node") rows asked.node
   pub since : IsTime (codes "from") rows asked.since
   pub until : IsTime (codes "to") rows asked.until
+  pub statement : IsText (codes "statement") rows asked.statement
   pub connection : IsNumber 64 (codes "connection") rows asked.connection
   pub form : IsExchangesForm rows asked.form
 

@@ -61,6 +61,7 @@ capture =
     ∷ named (codes "node")
     ∷ named (codes "from")
     ∷ named (codes "to")
+    ∷ named (codes "statement")
     ∷ from_one (named (codes "connection"))
     ∷ bound (named (codes "streams"))
     ∷ bound (flag (codes "json"))

@@ -334,7 +334,7 @@ const ALL: LimitRange = LimitRange {
 
 /// What `capture` takes. The help of a limit has its range and what the number is where it is not given, and docs/check compares both
 /// with `CaptureLimits`.
-const CAPTURE: [Word; 21] = [
+const CAPTURE: [Word; 22] = [
     Word {
         name: "file",
         form: Form::File,
@@ -399,6 +399,13 @@ const CAPTURE: [Word; 21] = [
         without: &[],
     },
     Word {
+        name: "statement",
+        form: Form::Text("TEXT"),
+        help: "Only requests whose statement has this text in it, as far as the lines show it",
+        with: &[],
+        without: &[],
+    },
+    Word {
         name: "connection",
         form: Form::Place,
         help: "Only what is told of the connection with this number; the first has the number 1",
@@ -418,6 +425,7 @@ const CAPTURE: [Word; 21] = [
             "node",
             "from",
             "to",
+            "statement",
             "connection",
             "open",
             "text",
@@ -451,8 +459,19 @@ const CAPTURE: [Word; 21] = [
         help: "A line for each event of each frame, after the connection's number and > of a request or < of a response",
         with: &[],
         without: &[
-            "slow", "errors", "opcode", "client", "node", "from", "to", "json", "summary",
-            "streams", "open", "text",
+            "slow",
+            "errors",
+            "opcode",
+            "client",
+            "node",
+            "from",
+            "to",
+            "statement",
+            "json",
+            "summary",
+            "streams",
+            "open",
+            "text",
         ],
     },
     Word {
@@ -461,8 +480,20 @@ const CAPTURE: [Word; 21] = [
         help: "The pages of the connection that --connection names, as cqlp rows writes them",
         with: &["connection"],
         without: &[
-            "slow", "errors", "opcode", "client", "node", "from", "to", "json", "summary",
-            "events", "streams", "open", "text",
+            "slow",
+            "errors",
+            "opcode",
+            "client",
+            "node",
+            "from",
+            "to",
+            "statement",
+            "json",
+            "summary",
+            "events",
+            "streams",
+            "open",
+            "text",
         ],
     },
     Word {

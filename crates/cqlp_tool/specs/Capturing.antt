@@ -21,6 +21,7 @@ use Rattle.cqlp_capture_exchanges.specs.declared.form.ExchangeForm.TheVariants a
 use Rattle.cqlp_capture_exchanges.specs.declared.naming.Naming.TheVariants as naming
 use Rattle.cqlp_capture_exchanges.specs.declared.pool.ExchangeLimits.{ExchangeLimits}
 use Rattle.cqlp_capture_exchanges.specs.Capturing.{WritesExchanges}
+use Rattle.cqlp_capture_exchanges.specs.Parts.{part_of}
 use Rattle.cqlp_capture_events.specs.Capturing.{WritesEvents}
 use Rattle.cqlp_capture_rows.specs.Capturing.{WritesRows}
 use Rattle.cqlp_tool.specs.Faults.{ReportsFault}
@@ -71,6 +72,7 @@ filter_of asked =
       node = option_map end_filter_of asked.node;
       since = asked.since;
       until = asked.until;
+      statement = option_map (λ text. part_of text.now) asked.statement;
       connection = asked.connection;
     }
 

@@ -23,7 +23,9 @@ use crate::limits::{exchange_limits_of, streams_limits_of};
 use crate::marks::MARK;
 use crate::progress::Progress;
 use cqlp_capture_events::write_events;
-use cqlp_capture_exchanges::{EndFilter, ExchangeFilter, ExchangeForm, Naming, write_exchanges};
+use cqlp_capture_exchanges::{
+    EndFilter, ExchangeFilter, ExchangeForm, Naming, StatementPart, write_exchanges,
+};
 use cqlp_capture_rows::write_rows;
 use cqlp_capture_streams::{Buffering, StreamsLimits, write_streams};
 use cqlp_decode::SinkFault;
@@ -286,8 +288,8 @@ fn split_to_folder<R: Files + AllocGlobal, I: Source, O: Target, E: Target>(
 }
 
 /// What is asked of exchanges, with the time in nanoseconds.
-fn filter_of(asked: ExchangeOptions) -> ExchangeFilter
-    ensures { result ≡ filter_of asked }
+fn filter_of(asked: ExchangeOptions<'_>) -> ExchangeFilter
+    ensures { result ≡ filter_of asked.entry }
 {
     let ExchangeOptions {
         slow,
@@ -297,6 +299,7 @@ fn filter_of(asked: ExchangeOptions) -> ExchangeFilter
         node,
         since,
         until,
+        statement,
         connection,
         form: _,
     } = asked;
@@ -308,6 +311,7 @@ fn filter_of(asked: ExchangeOptions) -> ExchangeFilter
         node: node.map(end_filter_of),
         since,
         until,
+        statement: statement.map(StatementPart::of),
         connection,
     }
 }

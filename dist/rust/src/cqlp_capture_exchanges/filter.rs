@@ -2,11 +2,13 @@
 //! Which exchanges are shown.
 
 use crate::cqlp_capture_exchanges::connection::Connection;
-use crate::cqlp_capture_exchanges::prepared::same_bytes;
+use crate::cqlp_capture_exchanges::part::{StatementPart, is_part};
+use crate::cqlp_capture_exchanges::prepared::{Preparation, named, same_bytes};
 use crate::cqlp_capture_exchanges::report::Report;
 use crate::cqlp_capture_exchanges::span::{Span, is_short, time_between, took};
+use crate::cqlp_capture_exchanges::statement::{Statement, statement_of};
 use crate::cqlp_note::Opcode;
-use crate::cqlp_observer::{Frame, Kept, Paired};
+use crate::cqlp_observer::{Frame, Kept, Message, Paired};
 use crate::cqlp_tcp_connections::Ends;
 use crate::cqlp_tcp_segment::{Address, Endpoint};
 use crate::kit_std::alloc::Allocator;
@@ -43,6 +45,8 @@ pub struct ExchangeFilter {
     pub since: Option<u64>,
     /// Only what began at most so many nanoseconds after the first packet.
     pub until: Option<u64>,
+    /// Only requests whose statement has this text, as far as it is known.
+    pub statement: Option<StatementPart>,
     /// Only what is reported of the connection with this number.
     pub connection: Option<u64>,
 }
@@ -57,12 +61,14 @@ impl ExchangeFilter {
         node: None,
         since: None,
         until: None,
+        statement: None,
         connection: None,
     };
 
-    /// Whether what is reported of this connection is shown, in a capture whose first packet came at this time.
+    /// Whether what is reported of this connection is shown, where these statements are known and the capture's first packet came at this time.
     pub(crate) fn shows<A: Allocator>(
         &self,
+        known: &[Preparation<A>],
         first: Option<u64>,
         connection: &Connection,
         report: &Report<A>,
@@ -73,6 +79,7 @@ impl ExchangeFilter {
             && (!self.errors || is_trouble(report))
             && is_asking(self.opcode, report)
             && self.is_within(time_between(first, begun(report)))
+            && is_saying(&self.statement, known, report)
     }
 
     /// Whether this is a time that is asked for.
@@ -237,6 +244,54 @@ fn is_until(asked: Option<u64>, time: Option<Span>) -> bool {
 fn is_at_most(most: u64, time: Option<Span>) -> bool {
     match time {
         Some(span) => span.is_before || span.nanoseconds <= most,
+        None => false,
+    }
+}
+
+/// Whether the text of a request's statement has the part that is asked for.
+fn is_saying<A: Allocator>(
+    asked: &Option<StatementPart>,
+    known: &[Preparation<A>],
+    report: &Report<A>,
+) -> bool {
+    match asked {
+        Some(part) => reported_saying(known, part.as_slice(), report),
+        None => true,
+    }
+}
+
+fn reported_saying<A: Allocator>(known: &[Preparation<A>], part: &[u8], report: &Report<A>) -> bool {
+    match report {
+        Report::Messages { paired, .. } => paired_says(known, part, paired),
+        Report::Unread { .. } => false,
+    }
+}
+
+fn paired_says<A: Allocator>(
+    known: &[Preparation<A>],
+    part: &[u8],
+    exchange: &Paired<Kept<A>>,
+) -> bool {
+    match exchange {
+        Paired::Exchange { request, .. } => request_says(known, part, request),
+        Paired::Unanswered { request } => request_says(known, part, request),
+        Paired::Unasked { .. } | Paired::Event { .. } => false,
+    }
+}
+
+fn request_says<A: Allocator>(
+    known: &[Preparation<A>],
+    part: &[u8],
+    request: &Message<Kept<A>>,
+) -> bool {
+    let statement = statement_of(&request.frame.header, request.kept.front());
+    says(part, named(known, statement))
+}
+
+fn says(part: &[u8], statement: Option<Statement<'_>>) -> bool {
+    match statement {
+        Some(Statement::Text { text, .. }) => is_part(part, text.as_bytes()),
+        Some(Statement::Id { .. }) => false,
         None => false,
     }
 }

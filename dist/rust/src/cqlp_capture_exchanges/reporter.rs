@@ -75,7 +75,10 @@ impl<O: Target, A: Allocator> Reporter<O, A> {
     /// Takes a report of this connection.
     fn take_report(&mut self, connection: &Connection, report: &Report<A>) -> Result<(), SinkFault> {
         self.sums.count(report);
-        if self.filter.shows(self.first, connection, report) {
+        if self
+            .filter
+            .shows(&self.known, self.first, connection, report)
+        {
             note(&mut self.summary, self.form, &self.known, report);
             put_report(
                 &mut self.writer,

@@ -80,7 +80,7 @@ impl ExchangesAs {
 
 /// Which exchanges of a capture are written, those of which all holds that is asked for, and how.
 #[derive(Clone, Copy, Debug, PartialEq, Eq)]
-pub struct ExchangeOptions {
+pub struct ExchangeOptions<'a> {
     /// Those alone whose reply's last byte came so many milliseconds after the request's first, or more.
     pub slow: Option<u32>,
     /// Those alone whose reply is an ERROR, and requests without a reply.
@@ -95,13 +95,15 @@ pub struct ExchangeOptions {
     pub since: Option<u64>,
     /// Those alone that began so many nanoseconds after the capture's first packet, or earlier.
     pub until: Option<u64>,
+    /// Requests alone whose statement has this text.
+    pub statement: Option<&'a str>,
     /// Those of the connection with this number alone; the first has the number 1.
     pub connection: Option<u64>,
     pub form: ExchangesAs,
 }
 
-impl ExchangeOptions {
-    fn matched(matches: &ArgMatches<'_>) -> Result<ExchangeOptions, BadValue> {
+impl<'a> ExchangeOptions<'a> {
+    fn matched(matches: &ArgMatches<'a>) -> Result<ExchangeOptions<'a>, BadValue> {
         let opcode = opcode_of(matches)?;
         let client = end(matches, "client").or(Err(BadValue::Client))?;
         let node = end(matches, "node").or(Err(BadValue::Node))?;
@@ -115,6 +117,7 @@ impl ExchangeOptions {
             node,
             since,
             until,
+            statement: path(matches, "statement"),
             connection: long_number(matches, "connection"),
             form: ExchangesAs::matched(matches),
         })
@@ -127,7 +130,7 @@ pub enum CaptureTask<'a> {
     /// The bytes of each direction of each connection are written to a file in the folder with this path.
     Streams { folder: &'a str },
     /// Requests are written with their replies.
-    Exchanges(ExchangeOptions),
+    Exchanges(ExchangeOptions<'a>),
     /// A line is written for each event of each frame: of the connection with this number alone, if one is named; the first has the
     /// number 1.
     Events { connection: Option<u64> },

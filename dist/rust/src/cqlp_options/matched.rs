@@ -23,7 +23,7 @@ pub(crate) fn long_number(matches: &ArgMatches<'_>, option: &str) -> Option<u64>
     matches.get_one::<u64>(option)
 }
 
-/// The path that an option names.
+/// The path that an option names, or its text.
 pub(crate) fn path<'a>(matches: &ArgMatches<'a>, option: &str) -> Option<&'a str> {
     matches.get_str(option)
 }

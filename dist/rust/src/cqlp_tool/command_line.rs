@@ -8,7 +8,9 @@ use crate::cqlp_tool::limits::{exchange_limits_of, streams_limits_of};
 use crate::cqlp_tool::marks::MARK;
 use crate::cqlp_tool::progress::Progress;
 use crate::cqlp_capture_events::write_events;
-use crate::cqlp_capture_exchanges::{EndFilter, ExchangeFilter, ExchangeForm, Naming, write_exchanges};
+use crate::cqlp_capture_exchanges::{
+    EndFilter, ExchangeFilter, ExchangeForm, Naming, StatementPart, write_exchanges,
+};
 use crate::cqlp_capture_rows::write_rows;
 use crate::cqlp_capture_streams::{Buffering, StreamsLimits, write_streams};
 use crate::cqlp_decode::SinkFault;
@@ -222,7 +224,7 @@ fn split_to_folder<R: Files + AllocGlobal, I: Source, O: Target, E: Target>(
 }
 
 /// What is asked of exchanges, with the time in nanoseconds.
-fn filter_of(asked: ExchangeOptions) -> ExchangeFilter {
+fn filter_of(asked: ExchangeOptions<'_>) -> ExchangeFilter {
     let ExchangeOptions {
         slow,
         errors,
@@ -231,6 +233,7 @@ fn filter_of(asked: ExchangeOptions) -> ExchangeFilter {
         node,
         since,
         until,
+        statement,
         connection,
         form: _,
     } = asked;
@@ -242,6 +245,7 @@ fn filter_of(asked: ExchangeOptions) -> ExchangeFilter {
         node: node.map(end_filter_of),
         since,
         until,
+        statement: statement.map(StatementPart::of),
         connection,
     }
 }
