@@ -2,9 +2,9 @@
 """Times the program, the library for C and the encoder beside programs by hand, all in one run: ratios.py [ROUNDS]
 
 The programs of each line run in turn, ROUNDS times (15); a time is that of the processor, the least of them, and a ratio is the time of
-what is by hand to that of ours, so that over 1 is faster than by hand. Batches are also beside a reader by hand that puts the same events, and
-beside `cqlp check`. The program is both what cargo compiles over dist/rust, or $CQLP, and the proved one, which `./prove` builds, or $CQLP_PROVED. `-`
-marks what is not on this machine (the proved program, a C compiler, or bindings/out/libcqlp.a).
+what is by hand to that of ours, so that over 1 is faster than by hand. For batches what is by hand puts the same events. The program is both what
+cargo compiles over dist/rust, or $CQLP, and the proved one, which `./prove` builds, or $CQLP_PROVED. So is the library for C: that of cargo is $CQLP_LIBRARY,
+and the proved one $CQLP_LIBRARY_PROVED; bindings/build makes bindings/out/libcqlp.a of either. `-` marks what is not on this machine.
 """
 import os
 import pathlib
@@ -71,8 +71,8 @@ class Programs:
         self.rows = self.cargo(HERE / 'rows', HERE / 'out', 'rows')
         self.cqlp = os.environ.get('CQLP') or self.program()
         self.proved = os.environ.get('CQLP_PROVED') or next((str(it) for it in [TOP / 'crates/cqlp/out/cqlp'] if it.exists()), None)
-        self.batches = self.c('bindings/c/speed.c', TOP / 'bindings/out/libcqlp.a')
-        self.events = self.c('bench/events.c')
+        self.batches = [self.c(name, 'bindings/c/speed.c', os.environ.get(name)) for name in ('CQLP_LIBRARY', 'CQLP_LIBRARY_PROVED')]
+        self.events = self.c('events', 'bench/events.c', '')
         self.ways = {'checked': (self.encode, 'checked'), 'trusting': (self.encode, '')}
         self.ways.update({name: (self.pages, how) for name, how in (('encode', ''), ('append', 'append'), ('cells', 'cells'))})
 
@@ -94,12 +94,12 @@ class Programs:
         """The tasks of a command of the program as cargo compiles it, and of the proved one."""
         return [it and (lambda it=it: spent([it, command, page])) for it in (self.cqlp, self.proved)]
 
-    def c(self, source, *libraries):
+    def c(self, name, source, library):
         """A program in C: what counts the events that cqlp_next puts, in batches; what puts as many and decodes nothing."""
-        made = self.room / pathlib.Path(source).stem
-        if not all(it.exists() for it in libraries) or not shutil.which('cc'):
+        made = self.room / name
+        if library is None or not shutil.which('cc'):
             return None
-        subprocess.run(['cc', '-O2', f'-I{TOP}/include', '-o', made, TOP / source, *libraries], check=True)
+        subprocess.run(['cc', '-O2', f'-I{TOP}/include', '-o', made, TOP / source, *filter(None, [library])], check=True)
         return str(made)
 
     def page(self, name):
@@ -126,15 +126,14 @@ def read_tables(programs, pages, rounds):
 
 
 def batches_table(programs, pages, rounds):
-    """Batches of 256 beside three others: by hand, by hand with the same events put, and `cqlp check`; of 64 beside the last."""
-    table('batches from C', 'by hand', 'with events', '`cqlp check`', '256', '64', 'by hand / 256', 'with events / 256', '`check` / 256', '`check` / 64')
+    """Batches of 256 events and of 64, beside a reader by hand that puts the same events."""
+    table('batches from C', *BESIDE_HAND)
     for name in ('rows', 'collections', 'columns'):
         page = pages[name]
-        batch = [programs.batches and (lambda room=room: spent([programs.batches, room], page)) for room in ('256', '64')]
-        hand = [lambda more=more: spent([programs.check, page, *more]) for more in ((), ('events',))]
-        times = least(rounds, [*hand, lambda: spent([programs.cqlp, 'check', '-'], page), *batch])
-        ratios = ['-' if times[at] is None else f'{times[base] / times[at]:.2f}' for base, at in ((0, 3), (1, 3), (2, 3), (2, 4))]
-        print(f'| {name} | {" | ".join(shown_times(times))} | {" | ".join(ratios)} |', flush=True)
+        hand = lambda: spent([programs.check, page, 'events'])
+        for room in ('256', '64'):
+            of_both = [it and (lambda it=it: spent([it, room], page)) for it in programs.batches]
+            print_beside_hand(f'{name}, {room}', least(rounds, [hand, *of_both]))
 
 
 def text_table(programs, pages, rounds):
