@@ -17,8 +17,10 @@ ghost use Rattle.cqlp_cell.specs.Whole.{Ends};
 ghost use Rattle.cqlp_decode.specs.Sinks.{Gets, Fails};
 ghost use Rattle.cqlp_decode.specs.Progress.{IsLawful, nodes_of, parts_state, state_of, state_with};
 
-use crate::item_loop::{ItemsHanded, due_in, hand_part, stop_at};
-use crate::leaf::{OTHERS, TEXT_KEYS, VALUES_OF_TEXTS, hand_leaf};
+use crate::item_loop::{
+    FIRST_ENTRY, ItemsHanded, LIST_END, NEXT_ENTRY, due_in, hand_part, stop_at,
+};
+use crate::leaf::{LISTS, OTHERS, TEXT_KEYS, VALUES_OF_TEXTS, hand_leaf};
 use crate::page::{CellCursor, page_table};
 use crate::page_loop::{Handed, front_of};
 use crate::parts::Parts;
@@ -58,7 +60,7 @@ pub fn take_lists<S: Sink, A: Allocator>(
         return Ok(0);
     };
     let used = entered.item.used;
-    match hand_part(page, entered.item, sink) {
+    match hand_part::<FIRST_ENTRY, S>(page, entered.item, sink) {
         Ok(()) => {}
         Err(SinkFault) => return Err(FaultAfter { used }),
     }
@@ -211,7 +213,7 @@ impl StreamProgress {
     {
         let table = page_table(page.columns, &parts.table, &parts.given);
         let Some(kinds) = level.pair_kinds(table) else {
-            return self.hand_inside(parts, level, page, input, sink);
+            return self.hand_inside::<LISTS, S, A>(parts, level, page, input, sink);
         };
         // Most keys are texts, so that maps of these have a loop of their own.
         if kinds.key == Kind::Varchar {
@@ -301,7 +303,7 @@ impl StreamProgress {
                 return Ok(used);
             };
             used += end.used;
-            match hand_part(page, end, sink) {
+            match hand_part::<LIST_END, S>(page, end, sink) {
                 Ok(()) => {}
                 Err(SinkFault) => {
                     self.end_list(parts, page, level, end);
@@ -315,7 +317,7 @@ impl StreamProgress {
             page = next.page;
             level = next.entered.level;
             used += next.entered.item.used;
-            match hand_part(page, next.entered.item, sink) {
+            match hand_part::<NEXT_ENTRY, S>(page, next.entered.item, sink) {
                 Ok(()) => {}
                 Err(SinkFault) => {
                     parts.cells.set_level(level);

@@ -18,6 +18,18 @@ use crate::cqlp_grammar::{Event, Sink, SinkFault};
 use crate::cqlp_kind::Kind;
 use crate::kit_std::alloc::Allocator;
 
+/// The beginning of the first collection that the loop over cells enters.
+pub(crate) const FIRST_ENTRY: usize = 0;
+
+/// The beginning of one that follows.
+pub(crate) const NEXT_ENTRY: usize = 1;
+
+/// The end of each.
+pub(crate) const LIST_END: usize = 2;
+
+/// A part between the items of a cell.
+pub(crate) const AMONG_ITEMS: usize = 3;
+
 /// A part of a cell that has no content, and whether the cell is over.
 #[derive(Clone, Copy, Debug, PartialEq, Eq)]
 pub struct PartTaken {
@@ -83,7 +95,7 @@ pub(crate) fn take_items<S: Sink, A: Allocator>(
         let Some(taken) = progress.take_part(parts, page, &input[used..]) else {
             return Ok(used);
         };
-        match hand_part(page, taken.item, sink) {
+        match hand_part::<AMONG_ITEMS, S>(page, taken.item, sink) {
             Ok(()) => used += taken.item.used,
             Err(SinkFault) => {
                 let used = used + taken.item.used;
@@ -99,9 +111,10 @@ pub(crate) fn take_items<S: Sink, A: Allocator>(
     }
 }
 
-/// Hands a part without a content to the sink.
+/// Hands a part without a content to the sink. Each place that calls it has a function of its own, for the same reason as a
+/// busy loop has of `hand_leaf`.
 #[inline(always)]
-pub(crate) fn hand_part<S: Sink>(
+pub(crate) fn hand_part<const PLACE: usize, S: Sink>(
     page: CellCursor,
     item: BareItem,
     sink: &mut S,
@@ -169,14 +182,14 @@ impl StreamProgress {
             };
         };
         let mut level = first;
-        let handed = self.hand_inside(parts, &mut level, page, input, sink);
+        let handed = self.hand_inside::<OTHERS, S, A>(parts, &mut level, page, input, sink);
         parts.cells.set_level(level);
         handed
     }
 
     /// The same of the innermost value in the caller's hands.
     #[inline(always)]
-    pub(crate) fn hand_inside<S: Sink, A: Allocator>(
+    pub(crate) fn hand_inside<const LOOP: usize, S: Sink, A: Allocator>(
         &self,
         parts: &Parts<A>,
         level: &mut Level,
@@ -194,7 +207,7 @@ impl StreamProgress {
                 failed: false,
             };
         };
-        self.hand_list(parts, due.kind, level, page, input, sink)
+        self.hand_list::<LOOP, S, A>(parts, due.kind, level, page, input, sink)
     }
 
     /// The same of any value, whose items may be of many kinds.
@@ -236,7 +249,7 @@ impl StreamProgress {
 
     /// The same of a list or a set, whose items are of this kind.
     #[inline(always)]
-    fn hand_list<S: Sink, A: Allocator>(
+    fn hand_list<const LOOP: usize, S: Sink, A: Allocator>(
         &self,
         parts: &Parts<A>,
         kind: Kind,

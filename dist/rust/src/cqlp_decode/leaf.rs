@@ -21,8 +21,11 @@ pub const TEXT_KEYS: usize = 1;
 /// The values of a map whose keys are texts.
 pub const VALUES_OF_TEXTS: usize = 2;
 
+/// The items of lists and sets, in the loop over cells that are collections.
+pub const LISTS: usize = 3;
+
 /// All other loops.
-pub const OTHERS: usize = 3;
+pub const OTHERS: usize = 4;
 
 /// Hands the item at the front of the input to the sink, if it is a scalar and all its bytes are there. A busy loop has a
 /// function of its own: the compiler of the proved program inlines a long one only where it is called from one place.

@@ -5,8 +5,10 @@
 //! in the loop's hands. What is elsewhere is left, with the reading where it would be: its items to the loop over
 //! the items of cells, and all else to `Decoder::next`.
 
-use crate::cqlp_decode::item_loop::{ItemsHanded, due_in, hand_part, stop_at};
-use crate::cqlp_decode::leaf::{OTHERS, TEXT_KEYS, VALUES_OF_TEXTS, hand_leaf};
+use crate::cqlp_decode::item_loop::{
+    FIRST_ENTRY, ItemsHanded, LIST_END, NEXT_ENTRY, due_in, hand_part, stop_at,
+};
+use crate::cqlp_decode::leaf::{LISTS, OTHERS, TEXT_KEYS, VALUES_OF_TEXTS, hand_leaf};
 use crate::cqlp_decode::page::{CellCursor, page_table};
 use crate::cqlp_decode::page_loop::{Handed, front_of};
 use crate::cqlp_decode::parts::Parts;
@@ -37,7 +39,7 @@ pub(crate) fn take_lists<S: Sink, A: Allocator>(
         return Ok(0);
     };
     let used = entered.item.used;
-    match hand_part(page, entered.item, sink) {
+    match hand_part::<FIRST_ENTRY, S>(page, entered.item, sink) {
         Ok(()) => {}
         Err(SinkFault) => return Err(FaultAfter { used }),
     }
@@ -156,7 +158,7 @@ impl StreamProgress {
     ) -> ItemsHanded {
         let table = page_table(page.columns, &parts.table, &parts.given);
         let Some(kinds) = level.pair_kinds(table) else {
-            return self.hand_inside(parts, level, page, input, sink);
+            return self.hand_inside::<LISTS, S, A>(parts, level, page, input, sink);
         };
         // Most keys are texts, so that maps of these have a loop of their own.
         if kinds.key == Kind::Varchar {
@@ -234,7 +236,7 @@ impl StreamProgress {
                 return Ok(used);
             };
             used += end.used;
-            match hand_part(page, end, sink) {
+            match hand_part::<LIST_END, S>(page, end, sink) {
                 Ok(()) => {}
                 Err(SinkFault) => {
                     self.end_list(parts, page, level, end);
@@ -248,7 +250,7 @@ impl StreamProgress {
             page = next.page;
             level = next.entered.level;
             used += next.entered.item.used;
-            match hand_part(page, next.entered.item, sink) {
+            match hand_part::<NEXT_ENTRY, S>(page, next.entered.item, sink) {
                 Ok(()) => {}
                 Err(SinkFault) => {
                     parts.cells.set_level(level);
