@@ -350,14 +350,14 @@ const CAPTURE: [Word; 22] = [
     Word {
         name: "client",
         form: Form::Text("ADDRESS"),
-        help: "Only what is told of connections of the client with this address; ADDRESS:PORT, of IPv6 [ADDRESS]:PORT, names its port too",
+        help: "Only connections of the client with this address; ADDRESS:PORT, of IPv6 [ADDRESS]:PORT, names its port too",
         with: &[],
         without: &[],
     },
     Word {
         name: "node",
         form: Form::Text("ADDRESS"),
-        help: "Only what is told of connections of the node with this address; ADDRESS:PORT, of IPv6 [ADDRESS]:PORT, names its port too",
+        help: "Only connections of the node with this address; ADDRESS:PORT, of IPv6 [ADDRESS]:PORT, names its port too",
         with: &[],
         without: &[],
     },
@@ -385,7 +385,7 @@ const CAPTURE: [Word; 22] = [
     Word {
         name: "connection",
         form: Form::Place,
-        help: "Only what is told of the connection with this number; the first has the number 1",
+        help: "Only the connection with this number; the first has the number 1",
         with: &[],
         without: &[],
     },
