@@ -3,9 +3,10 @@
 ghost use Rattle.std.specs.Prelude.{◌≡◌, option_map};
 ghost use Rattle.cqlp_capture_exchanges.specs.Reports.{report_of};
 ghost use Rattle.cqlp_capture_exchanges.specs.Statements.{said_of};
-ghost use Rattle.cqlp_capture_exchanges.specs.Filters.{asks, begun, begun_in, has_failed, has_opcode, is_asking, is_at, is_at_least, is_between, is_end, is_error, is_failure, is_host};
-ghost use Rattle.cqlp_capture_exchanges.specs.Filters.{is_at_most, is_of, is_saying, is_since, is_slow, is_trouble, is_until, is_within, paired_says, reported_asking, reported_saying, reported_slow};
-ghost use Rattle.cqlp_capture_exchanges.specs.Filters.{request_says, says, took_at_least};
+ghost use Rattle.cqlp_capture_exchanges.specs.Filters.{asks, begun, begun_in, has_failed, has_opcode, is_asking, is_at};
+ghost use Rattle.cqlp_capture_exchanges.specs.Filters.{is_at_least, is_at_most, is_between, is_end, is_error, is_failure, is_host, is_of};
+ghost use Rattle.cqlp_capture_exchanges.specs.Filters.{is_saying, is_since, is_slow, is_trouble, is_until, is_within, paired_says};
+ghost use Rattle.cqlp_capture_exchanges.specs.Filters.{reported_asking, reported_saying, reported_slow, request_says, says, took_at_least};
 
 use crate::connection::Connection;
 use crate::part::{StatementPart, is_part};

@@ -80,7 +80,8 @@ impl<A: Allocator + Clone> Table<A> {
         bytes: &[u8],
         reporter: &mut Reporter<O, A>,
     ) -> Result<(), StreamsFault>
-        ensures reports { ReportedAll (of_delivery delivered.now) (takes_delivery present delivered.now bytes.now self.old).reports reporter.old result reporter.new }
+        ensures reports { ReportedAll (of_delivery delivered.now) (takes_delivery present delivered.now bytes.now self.old).reports reporter.old result
+            reporter.new }
         ensures after { IsSome reporter.old.output.given → OnOk result (self.new ≡ (takes_delivery present delivered.now bytes.now self.old).table) }
     {
         match self.slots.get_mut(&delivered.number) {

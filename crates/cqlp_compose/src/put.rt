@@ -1,6 +1,7 @@
 //! Cells of a page, put into rooms of the caller's.
 
-ghost use Rattle.std.specs.Prelude.{◌≡◌, ◌++◌, ◌+◌, ◌/◌, ◌%◌, ◌<◌, ◌^◌, ℕ, List, IfSome, IsTrue, None, drop, false, length, true};
+ghost use Rattle.std.specs.Prelude.{◌≡◌, ◌++◌, ◌+◌, ◌/◌, ◌%◌, ◌<◌, ◌^◌, ℕ, List, IfSome, IsTrue};
+ghost use Rattle.std.specs.Prelude.{None, drop, false, length, true};
 ghost use Rattle.cqlp_grammar.specs.Events.{event_of};
 ghost use Rattle.cqlp_compose.specs.Cells.{state};
 ghost use Rattle.cqlp_build_cells.specs.Building.{ends_cell};

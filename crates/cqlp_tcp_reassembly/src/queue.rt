@@ -1,6 +1,7 @@
 //! Runs in a queue.
 
-ghost use Rattle.std.specs.Prelude.{◌≡◌, ◌+◌, ◌-◌, ◌<◌, ◌≤◌, ◌==◌, ◌^◌, [], ◌∷◌, length, IfOk, IfSome, OnErr, if◌then◌else◌};
+ghost use Rattle.std.specs.Prelude.{◌≡◌, ◌+◌, ◌-◌, ◌<◌, ◌≤◌, ◌==◌, ◌^◌, [], ◌∷◌, length};
+ghost use Rattle.std.specs.Prelude.{IfOk, IfSome, OnErr, if◌then◌else◌};
 ghost use Rattle.std.specs.VecDeque.{deque_capacity, deque_len};
 ghost use Rattle.cqlp_tcp_reassembly.specs.Runs.{behind_first, behind_last, bytes_at, first_at, first_free, free_part, last_of};
 ghost use Rattle.cqlp_tcp_reassembly.specs.Runs.{size_of, summary_at, with_run};
