@@ -2,7 +2,8 @@
 # Times the library from C, an event a call and in batches, and writing the page again from its events (put.c); and the wrappers for Rust and Python on
 # pages that pages.py makes, beside `cqlp check` of the same file, a plain loop in Python over the same cells and the compiled reader of the released driver
 # for Python, where it is there; and the wrapper for Go, where it is there, on its own pages of pages.py, and beside gocql. As `bindings.sh --wrappers` it
-# times those for Python and Go alone, over the library that bindings/build made last.
+# times those for Python and Go alone, over the library that bindings/build made last; with a word after it, the path of another checkout, in turn with those
+# over the library there: so one may be that of cargo, and one the proved one.
 set -eu
 
 here=$(dirname -- "$(readlink -f -- "${BASH_SOURCE[0]}")")
@@ -10,8 +11,9 @@ bindings=$here/../bindings
 room=$(mktemp -d)
 trap 'rm -rf "$room"' EXIT
 
-export CARGO_TARGET_DIR=$bindings/out/rust PYTHONPATH=$bindings/python
+export CARGO_TARGET_DIR=$bindings/out/rust
 wrappers=$([ "${1:-}" = --wrappers ] && echo alone || true)
+checkouts=("$here/.." ${2:+"$2"})
 python=python3
 ! /usr/bin/python3 -c 'import cassandra' 2>/dev/null || python=/usr/bin/python3
 
@@ -42,9 +44,15 @@ for page in 'rows 200000' 'collections 40000' 'columns 1000' 'blobs 32'; do
     size=$(stat -c %s "$room/page")
     echo "$page: $size bytes"
     [ -n "$wrappers" ] || beneath
-    "$python" -W ignore "$here/bindings.py" "$room/page"
+    for checkout in "${checkouts[@]}"; do
+        [ "${#checkouts[@]}" = 1 ] || echo "$checkout:"
+        PYTHONPATH=$checkout/bindings/python "$python" -W ignore "$here/bindings.py" "$room/page"
+    done
 done
 if command -v go >/dev/null; then
-    (cd "$bindings/go" && go test -run none -bench . . | grep '^Benchmark')
-    "$here/gocql.sh" 9
+    for checkout in "${checkouts[@]}"; do
+        [ "${#checkouts[@]}" = 1 ] || echo "$checkout:"
+        (cd "$checkout/bindings/go" && go test -run none -bench . . | grep '^Benchmark')
+        "$checkout/bench/gocql.sh" 9
+    done
 fi

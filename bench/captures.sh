@@ -1,7 +1,8 @@
 #!/usr/bin/env bash
 # Times `cqlp capture` (lines, --summary, --streams) on captures that captures.py makes, of 300 MB: of 50 connections at a time, with 1.2 million packets;
 # of 1,000 connections at a time; of pages, whole and with each second segment with bytes lost; of small requests; and of 3,000 and 30,000 connections. The
-# program is the released one, which is compiled by the profile `dist`, or CQLP. And the example `streams` of the package for cargo, which hands on what each
+# program is the released one, which is compiled by the profile `dist`, or CQLP, and the proved one, crates/cqlp/out/cqlp or CQLP_PROVED, where it is there.
+# They run in turn, and a line says how many times as long the proved one takes. And the example `streams` of the package for cargo, which hands on what each
 # end of each connection sent, and writes nothing but a line for each direction.
 # Beside them tcpflow, tcptrace and tshark, where they are installed, once each: files of both directions of each connection (tcpflow, tcptrace -e), their
 # totals (tcptrace -n, tshark -z conv,tcp), and a line for each packet with a message (tshark -Y cql), and how many times as long that takes as lines do.
@@ -16,25 +17,56 @@ room=$(mktemp -d)
 trap 'rm -rf "$room"' EXIT
 export CARGO_TARGET_DIR=$here/../dist/out/rust
 (cd "$here/../dist/rust" && cargo build --offline --profile dist --features cli --bin cqlp --example streams)
-program=${CQLP:-$CARGO_TARGET_DIR/dist/cqlp}
+programs=("${CQLP:-$CARGO_TARGET_DIR/dist/cqlp}" "${CQLP_PROVED:-$here/../crates/cqlp/out/cqlp}")
+[ -x "${programs[1]}" ] || unset 'programs[1]'
+compilers=(cargo proved)
 
-# The least processor time of so many runs of a command on a capture, which is left in the file best, and its resident memory. It runs in a new folder, flows.
+# Runs a command on a capture in a new folder, flows, and adds the processor time that it takes and its resident memory to a file.
+spend() {
+    local spent=$1
+    shift
+    rm -rf "$room/flows"
+    mkdir "$room/flows"
+    (cd "$room/flows" && /usr/bin/time -a -o "$spent" -f '%U %S %M' "$@" >/dev/null 2>&1) || true
+}
+
+# Prints the least of the times in a file, and leaves it in another one.
+print_least() {
+    local name=$1 spent=$2
+    grep -E '^[0-9.]+ [0-9.]+ [0-9]+$' "$spent" | awk -v name="$name" -v bytes="$(stat -c %s "$room/capture")" -v least="$3" '
+        NR == 1 || $1 + $2 < best { best = $1 + $2 }
+        $3 > most { most = $3 }
+        END {
+            printf "  %s: %d ms of the processor, %d MB/s, %.1f MiB resident\n", name, best * 1000, bytes / (best + 0.000001) / 1e6, most / 1024
+            print best >least
+        }'
+}
+
+# Runs a command so many times.
 measure() {
     local runs=$1 name=$2
     shift 2
     rm -f "$room/spent"
     for ((; runs > 0; runs--)); do
-        rm -rf "$room/flows"
-        mkdir "$room/flows"
-        (cd "$room/flows" && /usr/bin/time -a -o "$room/spent" -f '%U %S %M' "$@" >/dev/null 2>&1) || true
+        spend "$room/spent" "$@"
     done
-    grep -E '^[0-9.]+ [0-9.]+ [0-9]+$' "$room/spent" | awk -v name="$name" -v bytes="$(stat -c %s "$room/capture")" -v best_file="$room/best" '
-        NR == 1 || $1 + $2 < best { best = $1 + $2 }
-        $3 > most { most = $3 }
-        END {
-            printf "  %s: %d ms of the processor, %d MB/s, %.1f MiB resident\n", name, best * 1000, bytes / (best + 0.000001) / 1e6, most / 1024
-            print best >best_file
-        }'
+    print_least "$name" "$room/spent" "$room/best"
+}
+
+# Runs `cqlp capture` with these words of each program, five times in turn.
+measure_both() {
+    local name=$1 run at
+    shift
+    rm -f "$room"/spent.* "$room"/best.*
+    for run in 1 2 3 4 5; do
+        for at in "${!programs[@]}"; do
+            spend "$room/spent.$at" "${programs[at]}" capture "$@" "$room/capture"
+        done
+    done
+    for at in "${!programs[@]}"; do
+        print_least "$name, ${compilers[at]}" "$room/spent.$at" "$room/best.$at"
+    done
+    [ ! -e "$room/best.1" ] || paste "$room"/best.[01] | awk '$1 > 0 { printf "  proved / cargo: %.2f\n", $2 / $1 }'
 }
 
 beside() {
@@ -58,13 +90,16 @@ for kind in "${kinds[@]}"; do
     echo "$kind: $(stat -c %s "$room/capture") bytes"
     own=0
     measure 3 'the example' "$CARGO_TARGET_DIR/dist/examples/streams" "$room/capture"
-    if [ -x "$program" ]; then
+    if [ -x "${programs[0]}" ]; then
         # Of 1,000 connections at a time the program writes two files for nearly each segment.
-        [[ $kind =~ ^(thousand|many)$ ]] || measure 3 --streams "$program" capture --streams "$room/flows" "$room/capture"
-        measure 3 --summary "$program" capture --summary "$room/capture"
-        measure 3 lines "$program" capture "$room/capture"
-        own=$(<"$room/best")
-        "$program" capture "$room/capture" 2>&1 >/dev/null | tail -n 1
+        [[ $kind =~ ^(thousand|many)$ ]] || measure_both --streams --streams "$room/flows"
+        measure_both --summary --summary
+        measure_both --json --json
+        measure_both --events --events
+        measure_both --rows --rows --connection 1
+        measure_both lines
+        own=$(<"$room/best.0")
+        "${programs[0]}" capture "$room/capture" 2>&1 >/dev/null | tail -n 1
     fi
     beside "$own"
 done

@@ -8,6 +8,7 @@ and the proved one $CQLP_LIBRARY_PROVED; bindings/build makes bindings/out/libcq
 """
 import os
 import pathlib
+import re
 import shutil
 import subprocess
 import sys
@@ -72,6 +73,7 @@ class Programs:
         self.cqlp = os.environ.get('CQLP') or self.program()
         self.proved = os.environ.get('CQLP_PROVED') or next((str(it) for it in [TOP / 'crates/cqlp/out/cqlp'] if it.exists()), None)
         self.batches = [self.c(name, 'bindings/c/speed.c', os.environ.get(name)) for name in ('CQLP_LIBRARY', 'CQLP_LIBRARY_PROVED')]
+        self.puts = [self.c(f'{name}.put', 'bench/put.c', os.environ.get(name)) for name in ('CQLP_LIBRARY', 'CQLP_LIBRARY_PROVED')]
         self.events = self.c('events', 'bench/events.c', '')
         self.ways = {'checked': (self.encode, 'checked'), 'trusting': (self.encode, '')}
         self.ways.update({name: (self.pages, how) for name, how in (('encode', ''), ('append', 'append'), ('cells', 'cells'))})
@@ -159,6 +161,34 @@ def encode_table(programs, rounds):
         print(f'| {page} | {" | ".join(shown_times(times.values()))} | {" | ".join(ratios)} |', flush=True)
 
 
+def put_times(program, page):
+    """What bench/put.c says of one run: the milliseconds of cqlp_page_put, cqlp_page_measure and cqlp_encode."""
+    with open(page, 'rb') as stream:
+        said = subprocess.run([program, '1'], stdin=stream, capture_output=True, text=True, check=True).stdout
+    measure, put, encode = (float(it) for it in re.findall(r'([0-9.]+) ms', said))
+    return put, measure, encode
+
+
+def put_table(programs, rounds):
+    """Writing a page from C, of its events, beside the package's ways of writing the same values."""
+    page = programs.room / 'rows.200000'
+    with open(page, 'wb') as out:
+        subprocess.run([sys.executable, HERE / 'pages.py', 'rows', '200000'], stdout=out, check=True)
+    ways = [programs.ways[it] for it in ('cells', 'append')]
+    runs = []
+    for _ in range(rounds):
+        of_rust = [task() for program, how in ways for task in writings(program, programs, 'rows 200000', how)]
+        runs.append([of_rust, *(it and put_times(it, page) for it in programs.puts)])
+    least_of = [min(run[0][at] for run in runs) for at in range(4)]
+    cells, append = ((many - one) / WRITES for one, many in zip(least_of[::2], least_of[1::2]))
+    cargo, proved = ([min(run[at][part] for run in runs) if programs.puts[at - 1] else None for part in range(3)] for at in (1, 2))
+    table('a page from C', 'of the package', 'cargo', 'proved', 'cargo / package', 'proved / package', 'proved / cargo')
+    for name, package, part in (('`cqlp_page_put`', cells, 0), ('`cqlp_page_measure`', None, 1), ('`cqlp_encode`', append, 2)):
+        times = [package, cargo[part], proved[part]]
+        ratios = ['-' if one is None or other is None else f'{one / other:.2f}' for one, other in zip((times[1], times[2], times[2]), (package, package, times[1]))]
+        print(f'| {name} | {" | ".join(shown_times(times))} | {" | ".join(ratios)} |', flush=True)
+
+
 def rows_table(programs, pages, rounds):
     """`cqlp::rows` and `feed` beside readers by hand, which the program of bench/rows times by itself."""
     table('rows of Rust types', 'by hand', 'the package', 'ratio')
@@ -180,6 +210,7 @@ def main(rounds=15):
         rows_table(programs, pages, int(rounds))
         text_table(programs, pages, int(rounds))
         encode_table(programs, int(rounds))
+        put_table(programs, int(rounds))
         start_line(programs, int(rounds))
 
 
