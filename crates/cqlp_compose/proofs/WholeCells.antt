@@ -1,5 +1,5 @@
 -- A cell of one event is put as it is built and written.
-use Rattle.std.proofs.Common.{◌≡◌, ℕ, ◌+◌, ◌-◌, ◌<◌, ◌≤◌, ◌^◌, ◌++◌, ◌&&◌, Bool, true, false, List, [], ◌∷◌, length, Option, Some, None, Result, Ok, Err, refl, sym, ap, ◌∙◌, subst, arith, append-nil}
+use Rattle.std.proofs.Common.{◌≡◌, ℕ, ◌+◌, ◌-◌, ◌<◌, ◌≤◌, ◌^◌, ◌++◌, ◌&&◌, Bool, true, false, List, [], ◌∷◌, drop, length, Option, Some, None, Result, Ok, Err, refl, sym, ap, ◌∙◌, subst, arith, append-nil}
 use Rattle.std.proofs.lemmas.Bool.{eq-eqb}
 use Rattle.std.specs.declared.alloc.Global.{Global}
 use Rattle.cqlp_kind.specs.declared.kind.Kind.{Kind}
@@ -19,15 +19,17 @@ use Rattle.cqlp_compose.specs.declared.place.PageProgress.{PageProgress}
 use Rattle.cqlp_compose.specs.declared.cells.WrittenCells.{WrittenCells}
 use Rattle.cqlp_compose.specs.declared.error.PageCellError.{PageCellError}
 use Rattle.cqlp_compose.specs.declared.error.PageCellError.TheVariants as cell_error
+use Rattle.cqlp_compose.specs.declared.error.PutError.{PutError}
 use Rattle.cqlp_compose.specs.declared.error.PutError.TheVariants as error
+use Rattle.cqlp_compose.specs.declared.put.PutCells.{PutCells}
 use Rattle.cqlp_compose.specs.Cells.{CellsState, Ends, GoesOn, Takes, begun, is_next, next_column, room, with_cell, within, without_cell}
 use Rattle.cqlp_compose.specs.Places.{described_type}
-use Rattle.cqlp_compose.specs.Put.{Answer, AreGiven, Ended, PutterState, Puts, fresh, fresh_putter, within as put_within}
-use Rattle.cqlp_compose.specs.Single.{IsCellOfKind, IsNextCell, IsPlain, IsScalarCell, IsWholeCell, PutsCell, after_cell, null_bytes, with_length}
+use Rattle.cqlp_compose.specs.Put.{Answer, AreGiven, Ended, PutterState, Puts, fresh, fresh_putter, putter, within as put_within}
+use Rattle.cqlp_compose.specs.Single.{IsCellOfKind, IsNextCell, IsNextKind, IsPlain, IsScalarCell, IsWholeCell, PutsCell, PutsScalar, after_cell, null_bytes, with_length}
 use Rattle.cqlp_compose.proofs.CellTaking.{goes_true}
 use Rattle.cqlp_compose.proofs.Lent.{a_vec, an_atom}
 use Rattle.cqlp_compose.proofs.OneEvent.{leaf_built, null_built, empty_built}
-use Rattle.cqlp_compose.proofs.Putting.{put_end, refused}
+use Rattle.cqlp_compose.proofs.Putting.{none_under_way, put_end, refused}
 
 -- ---- the value of one event
 
@@ -213,3 +215,42 @@ puts_cell g f p limits (Holds _ v) cell n r out new i x = absurd i.3
 puts_cell g f p limits (Node_of o) cell n r out new i x = absurd i.3
 puts_cell g f p limits (LeaveEvent level items) cell n r out new i x = absurd i.3
 puts_cell g f p limits (End x) cell n r out new i y = absurd i.3
+
+-- ---- a scalar of the kind of the next cell
+
+-- the bytes of its cell are few
+pub scalar_short : (most : ℕ) (k : Kind) (v : ScalarValue) (cell : List ℕ) → IsScalarCell most k v cell → length cell < 2 ^ 32 + 4
+scalar_short most k v cell s =
+    let long : length (with_length (content_of v)) ≡ 4 + length (content_of v) = omega arith in
+    omega (arith, ap length s.5, long, s.3, s.4)
+
+module _ (old new : PutCells) (k : Kind) (v : ScalarValue) (cell bytes before after : List ℕ) (is : IsScalarCell old.limits.bytes k v cell)
+    (changed : after ≡ bytes ++ drop (length bytes) before) where
+  abbrev all_new : PutterState
+  all_new = putter new
+
+  -- it is put as its event is
+  as_event : (row column len : ℕ) → PutsCell (putter old) cell (length before) (Ok (Some len)) bytes all_new → IsNextKind old row column k
+      → Puts (putter old) (Cell_at row column (Leaf 0 v)) (length before) (Ok (Some len)) bytes all_new
+  as_event row column len x n =
+      let f = old.frame.now in
+      let event : Event = Cell_at row column (Leaf 0 v) in
+      let same = none_under_way f old.limits old.place old.place old.cells n.0 refl in
+      let put = subst (λ (t : PutterState). PutsCell t cell (length before) (Ok (Some len)) bytes all_new) same x in
+      let next : IsNextCell f old.place old.limits event cell = (n.1, n.2, n.3, (k, n.4, (refl, is))) in
+      let puts = puts_cell old.alloc f old.place old.limits event cell (length before) (Ok (Some len)) bytes all_new next put in
+      subst (λ (t : PutterState). Puts t event (length before) (Ok (Some len)) bytes all_new) (sym same) puts
+
+  pub scalar_put : (len : Option ℕ) → PutsCell (putter old) cell (length before) (Ok len) bytes all_new → PutsScalar old k v before len new after
+  scalar_put (Some len) x = (bytes, λ row column n. as_event row column len x n, changed)
+  scalar_put None x = absurd x
+
+  none_put : bytes ≡ [] → after ≡ before
+  none_put none = changed ∙ ap (λ (b : List ℕ). b ++ drop (length b) before) none
+
+  -- nothing changes where there is no room for it
+  pub scalar_not_put : (why : PutError) → PutsCell (putter old) cell (length before) (Err why) bytes all_new → PutsScalar old k v before None new after
+  scalar_not_put (error.NoRoom len) x = (x.4, none_put x.0)
+  scalar_not_put (error.Cell cell_error.PastLength) x = (x.2, none_put x.0)
+  scalar_not_put (error.Cell cell_error.NotEnded) x = absurd x
+  scalar_not_put (error.Cell (cell_error.Cell why)) x = absurd x

@@ -1,5 +1,5 @@
 -- Cells that have one event (section 6 of native_protocol_v4.spec).
-use Rattle.std.specs.Prelude.{◌≡◌, ℕ, ◌+◌, ◌-◌, ◌<◌, ◌≤◌, ◌^◌, ◌++◌, true, false, List, [], ◌∷◌, length, Option, Some, None, Result, Ok, Err}
+use Rattle.std.specs.Prelude.{◌≡◌, ℕ, ◌+◌, ◌-◌, ◌<◌, ◌≤◌, ◌^◌, ◌++◌, true, false, List, [], ◌∷◌, drop, length, Option, Some, None, Result, Ok, Err}
 use Rattle.std.specs.Int.{w32, to_be_bytes}
 use Rattle.cqlp_kind.specs.declared.kind.Kind.{Kind}
 use Rattle.cqlp_kind.specs.Scalars.{ScalarValue, IsInRange, content_of, kind_of, scalar_fits}
@@ -19,7 +19,8 @@ use Rattle.cqlp_compose.specs.declared.error.PageCellError.TheVariants as cell_e
 use Rattle.cqlp_compose.specs.declared.error.PutError.TheVariants as error
 use Rattle.cqlp_compose.specs.Cells.{begun, is_next, next_column, room}
 use Rattle.cqlp_compose.specs.Places.{described_type}
-use Rattle.cqlp_compose.specs.Put.{Answer, PutterState, fresh}
+use Rattle.cqlp_compose.specs.declared.put.PutCells.{PutCells}
+use Rattle.cqlp_compose.specs.Put.{Answer, PutterState, Puts, fresh, putter}
 
 -- the bytes of a content with its length
 abbrev pub with_length : List ℕ → List ℕ
@@ -71,3 +72,22 @@ PutsCell old cell n (Err (error.NoRoom len)) bytes new =
     (bytes ≡ []) × (len ≡ length cell) × (n < length cell) × (length cell ≤ room old.cells) × (new ≡ old)
 PutsCell old cell n (Err (error.Cell cell_error.PastLength)) bytes new = (bytes ≡ []) × (room old.cells < length cell) × (new ≡ old)
 PutsCell old cell n r bytes new = ⊥
+
+-- ---- cells that are known to be next
+
+-- No event of the next cell came, it is of this row and this column, and its type is of this kind, without inner types.
+abbrev pub IsNextKind : PutCells → (row column : ℕ) → Kind → Type 0
+IsNextKind c row column k =
+    (c.cells ≡ None) × (is_next (begun c.frame.now c.place c.limits) (Cell_at row column (Null 0)) ≡ true) × (0 < c.limits.events)
+    × (c.place.cells + 1 < 2 ^ 64) × IsPlain (described_type c.frame.now (next_column (begun c.frame.now c.place c.limits))) k
+
+abbrev pub IsNext : PutCells → Kind → Type 0
+IsNext c k = (row column : ℕ) × IsNextKind c row column k
+
+-- The next cell, whose one event is a leaf with this scalar, is put; or nothing changes.
+abbrev pub PutsScalar : PutCells → Kind → ScalarValue → (before : List ℕ) → Option ℕ → PutCells → (after : List ℕ) → Type 0
+PutsScalar old k v before (Some len) new after =
+    (bytes : List ℕ)
+    × ((row column : ℕ) → IsNextKind old row column k → Puts (putter old) (Cell_at row column (Leaf 0 v)) (length before) (Ok (Some len)) bytes (putter new))
+    × (after ≡ bytes ++ drop (length bytes) before)
+PutsScalar old k v before None new after = (putter new ≡ putter old) × (after ≡ before)

@@ -7,6 +7,7 @@ use cqlp_message::{Frame, Message, Spec};
 use cqlp_type::TypeTree;
 
 /// The type of a column of a page, the first of which is 0, where it is described.
+#[inline(always)]
 pub fn column_type(frame: &Frame, column: usize) -> Option<&TypeTree>
     ensures { option_map (λ t. t.now) result ≡ model.described_type frame.now column }
 {
@@ -20,6 +21,7 @@ pub fn column_type(frame: &Frame, column: usize) -> Option<&TypeTree>
 }
 
 /// The same of these columns.
+#[inline(always)]
 fn spec_type(specs: &[Spec], column: usize) -> Option<&TypeTree>
     ensures { option_map (λ t. t.now) result ≡ model.type_at specs.now column }
 {

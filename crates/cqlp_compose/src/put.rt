@@ -2,20 +2,22 @@
 
 ghost use Rattle.std.specs.Prelude.{◌≡◌, ◌++◌, ◌+◌, ◌/◌, ◌%◌, ◌<◌, ◌^◌, ℕ, List, IfSome, IsTrue};
 ghost use Rattle.std.specs.Prelude.{None, drop, false, length, true};
+ghost use Rattle.cqlp_kind.specs.Contents.{value_of};
 ghost use Rattle.cqlp_grammar.specs.Events.{event_of};
 ghost use Rattle.cqlp_compose.specs.Cells.{state};
 ghost use Rattle.cqlp_build_cells.specs.Building.{ends_cell};
 ghost use Rattle.cqlp_compose.specs.Put.{Ended, GoesOn, Puts, fresh_putter, putter, within};
-ghost use Rattle.cqlp_compose.specs.Single.{IsNextCell, PutsCell, cell_bytes};
+ghost use Rattle.cqlp_compose.specs.Single.{IsNext, IsNextCell, IsNextKind, PutsCell, PutsScalar, cell_bytes};
 
 use crate::cells::PageCells;
 use crate::column::column_type;
 use crate::error::{PageCellError, PutError};
 use crate::page::OpenPage;
 use crate::place::PageProgress;
-use crate::single::{WholeCell, whole_cell};
+use crate::single::{WholeCell, plain_kind, scalar_cell, whole_cell};
 use cqlp_build_cells::{CellLimits, ends_cell};
 use cqlp_grammar::Event;
+use cqlp_kind::{Kind, Scalar};
 use cqlp_message::Frame;
 use cqlp_note::Header;
 use std::alloc::Global;
@@ -106,7 +108,7 @@ impl<'a> PutCells<'a> {
     }
 
     /// Puts the next cell, of which nothing has come yet.
-    #[inline]
+    #[inline(always)]
     fn put_cell(&mut self, cell: WholeCell<'_>, room: &mut [u8]) -> Result<Option<usize>, PutError>
         requires fresh { self.old.cells ≡ None }
         requires bounded { self.old.place.cells + 1 < 2 ^ 64 }
@@ -127,6 +129,43 @@ impl<'a> PutCells<'a> {
             free: self.place.free - size as u32,
         };
         Ok(Some(size))
+    }
+
+    /// The kind of the next cell, if no event of it came, this is its row and its column, and its type has no inner types; else None.
+    #[must_use]
+    #[inline(always)]
+    pub fn next_kind(&self, row: u32, column: u32) -> Option<Kind>
+        ensures { IfSome result (λ kind. IsNextKind self.now row column kind) }
+    {
+        if self.cells.is_some() {
+            return None;
+        }
+        if self.place.cells >= self.frame.cells_wanted() || self.limits.events == 0 {
+            return None;
+        }
+        if !is_at(self.place.cells, self.frame.columns(), row, column) {
+            return None;
+        }
+        plain_kind(column_type(self.frame, column as usize))
+    }
+
+    /// Puts the next cell, which is of this kind and has one event, a leaf with this scalar, and answers how many bytes it has. It is None, and nothing
+    /// changes, where the scalar is of another kind, or has more bytes than the limits, the page or the room.
+    #[tactic(auto, using(crate::proofs::WholeCells::scalar_short))]
+    #[inline(always)]
+    pub fn put_scalar(&mut self, scalar: &Scalar<'_>, kind: Kind, room: &mut [u8]) -> Option<usize>
+        requires { IsNext self.old kind }
+        ensures { PutsScalar self.old kind (value_of scalar.now) room.old result self.new room.new }
+    {
+        match scalar_cell(scalar, kind, self.limits.bytes) {
+            Some(cell) => {
+                let Ok(len) = self.put_cell(cell, room) else {
+                    return None;
+                };
+                len
+            }
+            None => None,
+        }
     }
 
     /// Takes the next event of a cell that may have several.

@@ -22,7 +22,7 @@ pub enum WholeCell<'a> {
 
 /// The kind of a type without inner types, or of a cell without a type.
 #[inline(always)]
-fn plain_kind(of: Option<&TypeTree>) -> Option<Kind>
+pub fn plain_kind(of: Option<&TypeTree>) -> Option<Kind>
     ensures { IfSome result (λ kind. IsPlain (option_map (λ t. t.now) of.entry) kind) }
 {
     match of {
@@ -54,7 +54,7 @@ pub fn whole_cell<'a>(event: &Event<'a>, of: Option<&TypeTree>, most: u32) -> Op
 
 /// The cell of this kind that holds this scalar.
 #[inline(always)]
-fn scalar_cell<'a>(scalar: &Scalar<'a>, kind: Kind, most: u32) -> Option<WholeCell<'a>>
+pub fn scalar_cell<'a>(scalar: &Scalar<'a>, kind: Kind, most: u32) -> Option<WholeCell<'a>>
     ensures { IfSome result (λ cell. IsScalarCell most kind (value_of scalar.now) (cell_bytes cell)) }
 {
     let content = content_as(scalar, kind)?;

@@ -5,6 +5,7 @@ use crate::cqlp_message::{Frame, Message, Spec};
 use crate::cqlp_type::TypeTree;
 
 /// The type of a column of a page, the first of which is 0, where it is described.
+#[inline(always)]
 pub fn column_type(frame: &Frame, column: usize) -> Option<&TypeTree> {
     match &frame.message {
         Message::Rows(page) => match &page.meta.specs {
@@ -16,6 +17,7 @@ pub fn column_type(frame: &Frame, column: usize) -> Option<&TypeTree> {
 }
 
 /// The same of these columns.
+#[inline(always)]
 fn spec_type(specs: &[Spec], column: usize) -> Option<&TypeTree> {
     match specs.get(column) {
         Some(spec) => Some(&spec.tree),

@@ -6,9 +6,10 @@ use crate::cqlp_compose::column::column_type;
 use crate::cqlp_compose::error::{PageCellError, PutError};
 use crate::cqlp_compose::page::OpenPage;
 use crate::cqlp_compose::place::PageProgress;
-use crate::cqlp_compose::single::{WholeCell, whole_cell};
+use crate::cqlp_compose::single::{WholeCell, plain_kind, scalar_cell, whole_cell};
 use crate::cqlp_build_cells::{CellLimits, ends_cell};
 use crate::cqlp_grammar::Event;
+use crate::cqlp_kind::{Kind, Scalar};
 use crate::cqlp_message::Frame;
 use crate::cqlp_note::Header;
 use crate::kit_std::alloc::Global;
@@ -88,7 +89,7 @@ impl<'a> PutCells<'a> {
     }
 
     /// Puts the next cell, of which nothing has come yet.
-    #[inline]
+    #[inline(always)]
     fn put_cell(&mut self, cell: WholeCell<'_>, room: &mut [u8]) -> Result<Option<usize>, PutError> {
         let size = cell.size();
         if size > self.place.free.min(Header::LONGEST_BODY) as usize {
@@ -103,6 +104,37 @@ impl<'a> PutCells<'a> {
             free: self.place.free - size as u32,
         };
         Ok(Some(size))
+    }
+
+    /// The kind of the next cell, if no event of it came, this is its row and its column, and its type has no inner types; else None.
+    #[must_use]
+    #[inline(always)]
+    pub fn next_kind(&self, row: u32, column: u32) -> Option<Kind> {
+        if self.cells.is_some() {
+            return None;
+        }
+        if self.place.cells >= self.frame.cells_wanted() || self.limits.events == 0 {
+            return None;
+        }
+        if !is_at(self.place.cells, self.frame.columns(), row, column) {
+            return None;
+        }
+        plain_kind(column_type(self.frame, column as usize))
+    }
+
+    /// Puts the next cell, which is of this kind and has one event, a leaf with this scalar, and answers how many bytes it has. It is None, and nothing
+    /// changes, where the scalar is of another kind, or has more bytes than the limits, the page or the room.
+    #[inline(always)]
+    pub(crate) fn put_scalar(&mut self, scalar: &Scalar<'_>, kind: Kind, room: &mut [u8]) -> Option<usize> {
+        match scalar_cell(scalar, kind, self.limits.bytes) {
+            Some(cell) => {
+                let Ok(len) = self.put_cell(cell, room) else {
+                    return None;
+                };
+                len
+            }
+            None => None,
+        }
     }
 
     /// Takes the next event of a cell that may have several.

@@ -17,7 +17,7 @@ pub enum WholeCell<'a> {
 
 /// The kind of a type without inner types, or of a cell without a type.
 #[inline(always)]
-fn plain_kind(of: Option<&TypeTree>) -> Option<Kind> {
+pub fn plain_kind(of: Option<&TypeTree>) -> Option<Kind> {
     match of {
         None => Some(Kind::Raw),
         Some(TypeTree::Plain(kind)) => { if kind.is_plain() { Some(*kind) } else { None } }
@@ -45,7 +45,7 @@ pub fn whole_cell<'a>(event: &Event<'a>, of: Option<&TypeTree>, most: u32) -> Op
 
 /// The cell of this kind that holds this scalar.
 #[inline(always)]
-fn scalar_cell<'a>(scalar: &Scalar<'a>, kind: Kind, most: u32) -> Option<WholeCell<'a>> {
+pub fn scalar_cell<'a>(scalar: &Scalar<'a>, kind: Kind, most: u32) -> Option<WholeCell<'a>> {
     let content = content_as(scalar, kind)?;
     if content_len(content) > most as usize {
         return None;
