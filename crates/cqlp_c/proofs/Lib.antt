@@ -17,6 +17,7 @@ pub mod Giving
 pub mod Handed
 pub mod HandedBack
 pub mod KindsNumbered
+pub mod Leaves
 pub mod Made
 pub mod Nexted
 pub mod OneBatch

@@ -3,15 +3,21 @@ use Rattle.std.proofs.Common.{◌≡◌, ℕ, suc, ◌+◌, ◌-◌, ◌<◌, �
 use Rattle.std.proofs.Math.ListN.{drop_of_length-le}
 use Rattle.std.proofs.Math.Seq.{drop-append_seam, drop-cons, take-append_seam}
 use Rattle.std.specs.Prelude.{◌==◌, ◌^◌, IfSome, if◌then◌else◌}
+use Rattle.std.specs.Borrow.{Bor}
 use Rattle.std.proofs.lemmas.Bool.{eq-eqb, eqb-true}
 use Rattle.std.proofs.lemmas.List.{append-nil, drop-drop, length-append, length-drop, take-append-drop, take_all}
 use borrow.Rule.Slice.PartMut.{mid_of, post_of, put_mid}
 use Rattle.cqlp_c.specs.declared.encode.Unencoded.TheVariants as unencoded
 use Rattle.cqlp_c.specs.declared.numbers.TheConstants as numbers
 use Rattle.cqlp_c.specs.declared.page.Unbegun.TheVariants as unbegun
-use Rattle.cqlp_grammar.specs.Events.{Event}
+use Rattle.cqlp_kind.specs.declared.kind.Kind.{Kind}
+use Rattle.cqlp_kind.specs.CellStep.{Leaf}
+use Rattle.cqlp_kind.specs.Scalars.{ScalarValue}
+use Rattle.cqlp_grammar.specs.Events.{Event, Cell_at}
 use Rattle.cqlp_build_cells.specs.Building.{ends_cell}
+use Rattle.cqlp_compose.specs.declared.put.PutCells.{PutCells}
 use Rattle.cqlp_compose.specs.Put.{GoesOn, PutterState, Puts, within}
+use Rattle.cqlp_compose.specs.Single.{IsNextKind, PutsScalar}
 use Rattle.cqlp_compose.specs.Measures.{event_size}
 use Rattle.cqlp_c.specs.declared.event.CqlpEvent.{CqlpEvent}
 use Rattle.cqlp_c.specs.declared.page.CqlpPut.{CqlpPut}
@@ -21,8 +27,8 @@ use Rattle.cqlp_compose.specs.declared.error.PutError.TheVariants as put_error
 use Rattle.cqlp_c.specs.declared.from_c.BadEvent.{BadEvent}
 use Rattle.cqlp_compose.specs.declared.page.OpenPage.{OpenPage}
 use Rattle.cqlp_c.specs.declared.encode.CqlpEncoded.{CqlpEncoded}
-use Rattle.cqlp_c.specs.Pages.{Begins, BeginsAnew, BatchState, PutsAll, PutsFrom, PutsOne, after_event, at_begin, gone_on, measured, nothing_put, sized_on, sum_of, written_of, with_all_used}
-use Rattle.cqlp_c.specs.FromC.{content_len, event_from_c}
+use Rattle.cqlp_c.specs.Pages.{Begins, BeginsAnew, BatchState, PutsAll, PutsFrom, PutsLeaf, PutsOne, after_event, at_begin, gone_on, measured, nothing_put, sized_on, sum_of, written_of, with_all_used}
+use Rattle.cqlp_c.specs.FromC.{content_len, event_from_c, found_leaf}
 
 -- ---- sizes
 
@@ -240,3 +246,18 @@ pub anew : (cs : List CqlpEvent) (contents given : List ℕ) (size : ℕ) (old :
     → old ≡ None → given ≡ contents → BeginsAnew cs given size code before after new written → Begins cs contents size old code before after new was written
 anew cs contents given size old code before after new was written none is begins =
     subst (λ (o : Option OpenPage). Begins cs contents size o code before after new was written) (sym none) (subst (λ (xs : List ℕ). BeginsAnew cs xs size code before after new written) is begins)
+
+-- ---- cells of one leaf
+
+-- the event of a leaf that is put
+pub leaf_put : (old new : PutCells) (c : CqlpEvent) (contents before after : List ℕ) (k : Kind) (v : ScalarValue) (len : ℕ) (rest : Bor (List ℕ)) → IsNextKind old c.row c.column k
+    → event_from_c c contents ≡ found_leaf c v → rest.now ≡ drop (content_len c) contents → PutsScalar old k v before (Some len) new after → PutsLeaf old c contents before (Some (len, rest)) new after
+leaf_put old new c contents before after k v len rest next read behind p = (p.0, (Cell_at c.row c.column (Leaf 0 v), read, p.1 c.row c.column next, behind), p.2)
+
+-- where none is put, nothing has changed before the event is taken as any
+pub any_put : (old mid new : PutterState) (c : CqlpEvent) (contents before room after : List ℕ) (r : Result (Option ℕ × List ℕ) Unput) → mid ≡ old → room ≡ before
+    → ((bytes : List ℕ) × PutsOne mid c contents (length room) r bytes new × (after ≡ bytes ++ drop (length bytes) room))
+    → (bytes : List ℕ) × PutsOne old c contents (length before) r bytes new × (after ≡ bytes ++ drop (length bytes) before)
+any_put old mid new c contents before room after r is same p =
+    let q = subst (λ (s : PutterState). (bytes : List ℕ) × PutsOne s c contents (length room) r bytes new × (after ≡ bytes ++ drop (length bytes) room)) is p in
+    subst (λ (b : List ℕ). (bytes : List ℕ) × PutsOne old c contents (length b) r bytes new × (after ≡ bytes ++ drop (length bytes) b)) same q

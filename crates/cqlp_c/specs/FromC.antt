@@ -1,5 +1,5 @@
 -- Events that C passes, which are to be written.
-use Rattle.std.specs.Prelude.{ℕ, ◌^◌, ℤ, Bool, true, false, ◌&&◌, ◌||◌, ◌==◌, nat_lt, if◌then◌else◌}
+use Rattle.std.specs.Prelude.{◌≡◌, ℕ, ◌^◌, ℤ, Bool, true, false, ◌&&◌, ◌||◌, ◌==◌, nat_lt, if◌then◌else◌}
 use Rattle.std.specs.Prelude.{List, length, take, Option, Some, None, option_map, Result, Ok, Err}
 use Rattle.cqlp_note.specs.declared.field.Field.{Field}
 use Rattle.cqlp_note.specs.declared.header.Header.{Header}
@@ -7,12 +7,15 @@ use Rattle.cqlp_note.specs.declared.opcode.Opcode.{Opcode}
 use Rattle.cqlp_note.specs.Field.{FieldValue}
 use Rattle.cqlp_note.specs.Field as note
 use Rattle.cqlp_note.specs.Heading.{beside_number, opcodes}
-use Rattle.cqlp_grammar.specs.Events.{Event, Frame, Holds, Node_of, End}
+use Rattle.cqlp_kind.specs.declared.kind.Kind.{Kind}
+use Rattle.cqlp_kind.specs.CellStep.{Leaf}
+use Rattle.cqlp_kind.specs.Scalars.{ScalarValue}
+use Rattle.cqlp_grammar.specs.Events.{Event, Frame, Holds, Node_of, Cell_at, End}
 use Rattle.cqlp_c.specs.declared.event.CqlpEvent.{CqlpEvent}
 use Rattle.cqlp_c.specs.declared.numbers.TheConstants as numbers
 use Rattle.cqlp_c.specs.declared.from_c.BadEvent.{BadEvent}
 use Rattle.cqlp_c.specs.declared.from_c.BadEvent.TheVariants as bad_event
-use Rattle.cqlp_c.specs.Numbers.{fields}
+use Rattle.cqlp_c.specs.Numbers.{fields, number_of_kind}
 use Rattle.cqlp_c.specs.Talked.{is_stream}
 use Rattle.cqlp_c.specs.CellFromC.{address_from_c, below, cell_from_c, is_of_cell, kind_in, lends, signed_to, text_in}
 
@@ -108,3 +111,11 @@ event_from_c c contents =
 abbrev pub first_of : {A : Type 0} → (A → Event) → Result A BadEvent → Result Event BadEvent
 first_of f (Ok x) = Ok (f x)
 first_of f (Err why) = Err why
+
+-- the leaf with this scalar and no value around it, in the row and the column that C passes
+abbrev pub found_leaf : CqlpEvent → ScalarValue → Result Event BadEvent
+found_leaf c v = Ok (Cell_at c.row c.column (Leaf 0 v))
+
+-- What C passes is a leaf of this kind with no value around it.
+abbrev pub IsLeaf : CqlpEvent → Kind → Type 0
+IsLeaf c k = (c.tag ≡ numbers.TAG_LEAF) × (c.kind ≡ number_of_kind k) × (c.level ≡ 0)

@@ -25,7 +25,8 @@ use Rattle.cqlp_compose.specs.declared.page.BegunPage.{BegunPage}
 use Rattle.cqlp_compose.specs.declared.page.OpenPage.{OpenPage}
 use Rattle.cqlp_compose.specs.Begun.{ends}
 use Rattle.cqlp_compose.specs.Begun as page
-use Rattle.cqlp_compose.specs.Put.{PutterState, fresh_putter}
+use Rattle.cqlp_compose.specs.declared.put.PutCells.{PutCells}
+use Rattle.cqlp_compose.specs.Put.{PutterState, fresh_putter, putter}
 use Rattle.cqlp_compose.specs.Put as cells
 use Rattle.cqlp_c.specs.declared.encode.CqlpEncoded.{CqlpEncoded}
 use Rattle.cqlp_c.specs.declared.encode.Unencoded.{Unencoded}
@@ -169,6 +170,13 @@ PutsOne old c contents n (Err (unput.Refused why)) bytes new =
     (e : Event) × (event_from_c c contents ≡ Ok e) × cells.Puts old e n (Err why) bytes new
 PutsOne old c contents n (Ok found) bytes new =
     (e : Event) × (event_from_c c contents ≡ Ok e) × cells.Puts old e n (Ok found.0) bytes new × (found.1 ≡ drop (content_len c) contents)
+
+-- The next cell is put, whose one event this is; or nothing changes.
+abbrev pub PutsLeaf : PutCells → CqlpEvent → (contents before : List ℕ) → Option (ℕ × Bor (List ℕ)) → PutCells → (after : List ℕ) → Type 0
+PutsLeaf old c contents before (Some found) new after =
+    (bytes : List ℕ) × PutsOne (putter old) c contents (length before) (Ok (Some found.0, found.1.now)) bytes (putter new)
+    × (after ≡ bytes ++ drop (length bytes) before)
+PutsLeaf old c contents before None new after = (putter new ≡ putter old) × (after ≡ before)
 
 -- what is written after an event with which a cell of this many bytes ends, or none
 abbrev pub gone_on : CqlpPut → (event used : ℕ) → Option ℕ → CqlpPut

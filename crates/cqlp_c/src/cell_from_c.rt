@@ -9,7 +9,7 @@ use crate::event::CqlpEvent;
 use crate::numbers::*;
 use cqlp_grammar::Event;
 use cqlp_kind::{Kind, Scalar};
-use cqlp_note::Address;
+use cqlp_note::{Address, is_text};
 
 /// What C passes of a cell, by a tag of a cell, as an event with this content.
 pub fn cell_from_c<'a>(c_event: &CqlpEvent, content: &'a [u8]) -> Option<Event<'a>>
@@ -46,6 +46,7 @@ pub fn cell_from_c<'a>(c_event: &CqlpEvent, content: &'a [u8]) -> Option<Event<'
 }
 
 /// Whether a scalar of the kind with this number has a content.
+#[inline(always)]
 pub fn lends(kind: u8) -> bool
     ensures { result ≡ model.lends kind }
 {
@@ -56,7 +57,8 @@ pub fn lends(kind: u8) -> bool
 }
 
 /// A scalar of this kind.
-fn scalar_from_c<'a>(kind: Kind, c_event: &CqlpEvent, content: &'a [u8]) -> Option<Scalar<'a>>
+#[inline(always)]
+pub fn scalar_from_c<'a>(kind: Kind, c_event: &CqlpEvent, content: &'a [u8]) -> Option<Scalar<'a>>
     ensures { option_map value_of result ≡ model.scalar_from_c kind c_event.now content.now }
 {
     match kind {
@@ -80,6 +82,7 @@ fn scalar_from_c<'a>(kind: Kind, c_event: &CqlpEvent, content: &'a [u8]) -> Opti
 }
 
 /// A scalar of a kind that is known by its number.
+#[inline(always)]
 fn numbered_from_c<'a>(kind: Kind, number: i64) -> Option<Scalar<'a>>
     ensures { option_map value_of result ≡ model.numbered_from_c kind number }
 {
@@ -98,6 +101,7 @@ fn numbered_from_c<'a>(kind: Kind, number: i64) -> Option<Scalar<'a>>
 }
 
 /// False is 0, and true is 1.
+#[inline(always)]
 fn truth_from_c(number: i64) -> Option<bool>
     ensures { result ≡ model.truth_from_c number }
 {
@@ -109,17 +113,20 @@ fn truth_from_c(number: i64) -> Option<bool>
 }
 
 /// The text that these bytes are, if they are UTF-8.
-#[tactic(auto, using(cqlp_note::proofs::Texts::utf8_true, cqlp_note::proofs::Texts::utf8_false))]
+#[tactic(auto, using(cqlp_note::proofs::Texts::utf8_known))]
+#[inline(always)]
 pub fn text_in(content: &[u8]) -> Option<&str>
     ensures { option_map (λ text. text.now) result ≡ model.text_in content.now }
 {
-    match str::from_utf8(content) {
-        Ok(text) => Some(text),
-        Err(_) => None,
+    if is_text(content) {
+        Some(unsafe { str::from_utf8_unchecked(content) })
+    } else {
+        None
     }
 }
 
 /// The first four bytes.
+#[inline(always)]
 fn first_four(bytes: [u8; 16]) -> [u8; 4]
     ensures { result ≡ take 4 bytes }
 {
@@ -128,6 +135,7 @@ fn first_four(bytes: [u8; 16]) -> [u8; 4]
 }
 
 /// The first eight bytes.
+#[inline(always)]
 fn first_eight(bytes: [u8; 16]) -> [u8; 8]
     ensures { result ≡ take 8 bytes }
 {
@@ -136,6 +144,7 @@ fn first_eight(bytes: [u8; 16]) -> [u8; 8]
 }
 
 /// An address, by how many bytes it has.
+#[inline(always)]
 pub fn address_from_c(c_event: &CqlpEvent) -> Option<Address>
     ensures { result ≡ model.address_from_c c_event.now }
 {

@@ -1,13 +1,15 @@
 //! Events that C passes.
 
-ghost use Rattle.std.specs.Prelude.{◌≡◌, IfOk, drop, option_map};
+ghost use Rattle.std.specs.Prelude.{◌≡◌, IfOk, IfSome, IsTrue, drop, option_map};
+ghost use Rattle.cqlp_kind.specs.Contents.{value_of};
 ghost use Rattle.cqlp_grammar.specs.Events.{Holds, event_of};
 ghost use Rattle.cqlp_c.specs.FromC as model;
 
-use crate::cell_from_c::{address_from_c, cell_from_c, lends, text_in};
+use crate::cell_from_c::{address_from_c, cell_from_c, lends, scalar_from_c, text_in};
 use crate::event::CqlpEvent;
 use crate::numbers::*;
 use cqlp_grammar::Event;
+use cqlp_kind::{Kind, Scalar};
 use cqlp_note::{BoundValue, Field, Header, Opcode};
 
 /// Why what C passes is no event that a frame is made of.
@@ -41,7 +43,42 @@ pub fn event_from_c<'a>(
     }
 }
 
+/// The scalar of what C passes as a leaf of this kind with no value around it, whose content is the first of the contents, and the contents after it;
+/// None where it is no such leaf.
+#[tactic(auto, using(crate::proofs::Leaves::leaf_read))]
+#[inline(always)]
+pub fn leaf_from_c<'a>(
+    c_event: &CqlpEvent,
+    kind: Kind,
+    contents: &'a [u8],
+) -> Option<(Scalar<'a>, &'a [u8])>
+    ensures leaf { IfSome result (λ found. model.event_from_c c_event.now contents.now ≡ model.found_leaf c_event.now (value_of found.0)) }
+    ensures rest { IfSome result (λ found. found.1.now ≡ drop (model.content_len c_event.now) contents.now) }
+{
+    if !is_leaf(c_event, kind) {
+        return None;
+    }
+    let len = content_len(c_event);
+    if contents.len() < len {
+        return None;
+    }
+    let (content, rest) = contents.split_at(len);
+    match scalar_from_c(kind, c_event, content) {
+        Some(scalar) => Some((scalar, rest)),
+        None => None,
+    }
+}
+
+/// Whether C passes a leaf of this kind with no value around it.
+#[inline(always)]
+fn is_leaf(c_event: &CqlpEvent, kind: Kind) -> bool
+    ensures { IsTrue result → model.IsLeaf c_event.now kind }
+{
+    c_event.tag == TAG_LEAF && c_event.kind == kind_number(kind) && c_event.level == 0
+}
+
 /// How many bytes its content has; none where it has no content.
+#[inline(always)]
 fn content_len(c_event: &CqlpEvent) -> usize
     ensures { result ≡ model.content_len c_event.now }
 {
@@ -53,6 +90,7 @@ fn content_len(c_event: &CqlpEvent) -> usize
 }
 
 /// Whether it is a text, bytes that are there, or a scalar that has a content.
+#[inline(always)]
 fn has_content(c_event: &CqlpEvent) -> bool
     ensures { result ≡ model.has_content c_event.now }
 {

@@ -8,11 +8,12 @@ ghost use Rattle.std.specs.contracts.alloc.Global as heap;
 ghost use Rattle.std.specs.contracts.impls.GlobalAllocator.TheImpl.{ghosts};
 ghost use Rattle.cqlp_compose.specs.Composing.{composed};
 ghost use Rattle.cqlp_compose.specs.Put.{putter};
+ghost use Rattle.cqlp_compose.specs.Single.{IsNextKind};
 ghost use Rattle.cqlp_compose.specs.declared.page.OpenPage.{OpenPage as Held};
 ghost use Rattle.cqlp_compose.specs.contracts.page.OpenPage as page_of;
 ghost use Rattle.cqlp_c.specs.Handle.{flag_of, owned_in};
 ghost use Rattle.cqlp_c.specs.Pages as model;
-ghost use Rattle.cqlp_c.specs.Pages.{Begins, BeginsAnew, IsPutBy, Measures, Opens, Puts, PutsAll, PutsCells, PutsOne, ReadsHead};
+ghost use Rattle.cqlp_c.specs.Pages.{Begins, BeginsAnew, IsPutBy, Measures, Opens, Puts, PutsAll, PutsCells, PutsLeaf, PutsOne, ReadsHead};
 
 use crate::batch::or_none;
 use crate::encode::{
@@ -20,7 +21,7 @@ use crate::encode::{
     unencoded_code,
 };
 use crate::event::CqlpEvent;
-use crate::from_c::{BadEvent, event_from_c};
+use crate::from_c::{BadEvent, event_from_c, leaf_from_c};
 use crate::loose::Loose;
 use crate::numbers::*;
 use crate::versions::put;
@@ -31,6 +32,7 @@ use cqlp_compose::{
     event_size,
 };
 use cqlp_grammar::Event;
+use cqlp_kind::Kind;
 use cqlp_message::Unfit;
 use cqlp_note::{Field, Header};
 use std::alloc::Global;
@@ -398,7 +400,100 @@ pub enum Unput {
 
 /// Takes the event that C passes, of which the content is the first of the contents; answers how many bytes were put at the front of the room,
 /// where a cell ends with it, and the contents after its own.
+#[inline(always)]
 fn put_from_c<'a>(
+    cells: &mut PutCells<'_>,
+    c_event: &CqlpEvent,
+    contents: &'a [u8],
+    room: &mut [u8],
+) -> Result<(Option<usize>, &'a [u8]), Unput>
+    ensures { (bytes : List ℕ) × PutsOne (putter cells.old) c_event.now contents.now (length room.old) (model.seen_put result) bytes (putter cells.new)
+        × (room.new ≡ bytes ++ drop (length bytes) room.old) }
+{
+    match put_leaf(cells, c_event, contents, room) {
+        Some((len, rest)) => Ok((Some(len), rest)),
+        None => put_any(cells, c_event, contents, room),
+    }
+}
+
+/// Puts the next cell, if this event is a leaf and all of the cell. It answers how many bytes the cell has, and the contents after its own. Where it puts
+/// nothing, nothing changes: [`put_any`] then finds out why.
+#[inline(always)]
+fn put_leaf<'a>(
+    cells: &mut PutCells<'_>,
+    c_event: &CqlpEvent,
+    contents: &'a [u8],
+    room: &mut [u8],
+) -> Option<(usize, &'a [u8])>
+    ensures { PutsLeaf cells.old c_event.now contents.now room.old result cells.new room.new }
+{
+    match cells.next_kind(c_event.row, c_event.column) {
+        Some(kind) => put_by_kind(cells, kind, c_event, contents, room),
+        None => None,
+    }
+}
+
+/// The same, where the next cell is of this kind. The compiler makes code of its own for each arm, which looks at what cells of that kind have.
+#[inline(always)]
+fn put_by_kind<'a>(
+    cells: &mut PutCells<'_>,
+    kind: Kind,
+    c_event: &CqlpEvent,
+    contents: &'a [u8],
+    room: &mut [u8],
+) -> Option<(usize, &'a [u8])>
+    requires { IsNextKind cells.old c_event.now.row c_event.now.column kind }
+    ensures { PutsLeaf cells.old c_event.now contents.now room.old result cells.new room.new }
+{
+    match kind {
+        Kind::Int => put_as(cells, Kind::Int, c_event, contents, room),
+        Kind::Bigint => put_as(cells, Kind::Bigint, c_event, contents, room),
+        Kind::Varchar => put_as(cells, Kind::Varchar, c_event, contents, room),
+        Kind::Boolean => put_as(cells, Kind::Boolean, c_event, contents, room),
+        Kind::Ascii => put_as(cells, Kind::Ascii, c_event, contents, room),
+        Kind::Blob => put_as(cells, Kind::Blob, c_event, contents, room),
+        Kind::Counter => put_as(cells, Kind::Counter, c_event, contents, room),
+        Kind::Custom => put_as(cells, Kind::Custom, c_event, contents, room),
+        Kind::Date => put_as(cells, Kind::Date, c_event, contents, room),
+        Kind::Decimal => put_as(cells, Kind::Decimal, c_event, contents, room),
+        Kind::Double => put_as(cells, Kind::Double, c_event, contents, room),
+        Kind::Float => put_as(cells, Kind::Float, c_event, contents, room),
+        Kind::Inet => put_as(cells, Kind::Inet, c_event, contents, room),
+        Kind::Raw => put_as(cells, Kind::Raw, c_event, contents, room),
+        Kind::Smallint => put_as(cells, Kind::Smallint, c_event, contents, room),
+        Kind::Time => put_as(cells, Kind::Time, c_event, contents, room),
+        Kind::Timestamp => put_as(cells, Kind::Timestamp, c_event, contents, room),
+        Kind::Timeuuid => put_as(cells, Kind::Timeuuid, c_event, contents, room),
+        Kind::Tinyint => put_as(cells, Kind::Tinyint, c_event, contents, room),
+        Kind::Uuid => put_as(cells, Kind::Uuid, c_event, contents, room),
+        Kind::Varint => put_as(cells, Kind::Varint, c_event, contents, room),
+        Kind::List | Kind::Map | Kind::Set | Kind::Udt | Kind::Tuple => None,
+    }
+}
+
+/// The same, as one function for all kinds.
+#[inline(always)]
+fn put_as<'a>(
+    cells: &mut PutCells<'_>,
+    kind: Kind,
+    c_event: &CqlpEvent,
+    contents: &'a [u8],
+    room: &mut [u8],
+) -> Option<(usize, &'a [u8])>
+    requires { IsNextKind cells.old c_event.now.row c_event.now.column kind }
+    ensures { PutsLeaf cells.old c_event.now contents.now room.old result cells.new room.new }
+{
+    match leaf_from_c(c_event, kind, contents) {
+        Some((scalar, rest)) => match cells.put_scalar(&scalar, kind, room) {
+            Some(len) => Some((len, rest)),
+            None => None,
+        },
+        None => None,
+    }
+}
+
+/// Takes any event, as [`put_from_c`] does.
+fn put_any<'a>(
     cells: &mut PutCells<'_>,
     c_event: &CqlpEvent,
     contents: &'a [u8],
