@@ -1,11 +1,11 @@
 -- Leaves that C passes, with no value around them.
-use Rattle.std.proofs.Common.{◌≡◌, ℕ, ◌≤◌, Bool, true, false, nat_lt, if◌then◌else◌, List, length, take, refl, sym, ap, ◌∙◌, Ok, Err, Option, Some, None}
+use Rattle.std.proofs.Common.{◌≡◌, ℕ, ◌≤◌, Bool, false, nat_lt, if◌then◌else◌, List, length, take, refl, sym, ap, ◌∙◌, Err, Option, Some}
 use Rattle.std.specs.Prelude.{◌==◌, option_map}
 use Rattle.cqlp_note.specs.Heading.{beside_number}
 use Rattle.cqlp_kind.specs.declared.kind.Kind.{Kind}
 use Rattle.cqlp_kind.specs.CellStep as cell
 use Rattle.cqlp_kind.specs.Scalars.{ScalarValue}
-use Rattle.cqlp_grammar.specs.Events.{Event, Cell_at}
+use Rattle.cqlp_grammar.specs.Events.{Cell_at}
 use Rattle.cqlp_c.specs.declared.event.CqlpEvent.{CqlpEvent}
 use Rattle.cqlp_c.specs.declared.numbers.TheConstants as numbers
 use Rattle.cqlp_c.specs.declared.from_c.BadEvent.TheVariants as bad_event

@@ -427,6 +427,9 @@ fn put_leaf<'a>(
 ) -> Option<(usize, &'a [u8])>
     ensures { PutsLeaf cells.old c_event.now contents.now room.old result cells.new room.new }
 {
+    if c_event.tag != TAG_LEAF {
+        return None;
+    }
     match cells.next_kind(c_event.row, c_event.column) {
         Some(kind) => put_by_kind(cells, kind, c_event, contents, room),
         None => None,

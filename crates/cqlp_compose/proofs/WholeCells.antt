@@ -19,7 +19,6 @@ use Rattle.cqlp_compose.specs.declared.place.PageProgress.{PageProgress}
 use Rattle.cqlp_compose.specs.declared.cells.WrittenCells.{WrittenCells}
 use Rattle.cqlp_compose.specs.declared.error.PageCellError.{PageCellError}
 use Rattle.cqlp_compose.specs.declared.error.PageCellError.TheVariants as cell_error
-use Rattle.cqlp_compose.specs.declared.error.PutError.{PutError}
 use Rattle.cqlp_compose.specs.declared.error.PutError.TheVariants as error
 use Rattle.cqlp_compose.specs.declared.put.PutCells.{PutCells}
 use Rattle.cqlp_compose.specs.Cells.{CellsState, Ends, GoesOn, Takes, begun, is_next, next_column, room, with_cell, within, without_cell}
@@ -244,13 +243,3 @@ module _ (old new : PutCells) (k : Kind) (v : ScalarValue) (cell bytes before af
   pub scalar_put : (len : Option ℕ) → PutsCell (putter old) cell (length before) (Ok len) bytes all_new → PutsScalar old k v before len new after
   scalar_put (Some len) x = (bytes, λ row column n. as_event row column len x n, changed)
   scalar_put None x = absurd x
-
-  none_put : bytes ≡ [] → after ≡ before
-  none_put none = changed ∙ ap (λ (b : List ℕ). b ++ drop (length b) before) none
-
-  -- nothing changes where there is no room for it
-  pub scalar_not_put : (why : PutError) → PutsCell (putter old) cell (length before) (Err why) bytes all_new → PutsScalar old k v before None new after
-  scalar_not_put (error.NoRoom len) x = (x.4, none_put x.0)
-  scalar_not_put (error.Cell cell_error.PastLength) x = (x.2, none_put x.0)
-  scalar_not_put (error.Cell cell_error.NotEnded) x = absurd x
-  scalar_not_put (error.Cell (cell_error.Cell why)) x = absurd x

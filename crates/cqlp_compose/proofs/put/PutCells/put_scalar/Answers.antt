@@ -1,6 +1,6 @@
 use Rattle.cqlp_kind.specs.Contents.{value_of}
 use Rattle.cqlp_compose.specs.Single.{cell_bytes}
-use Rattle.cqlp_compose.proofs.WholeCells.{scalar_not_put, scalar_put}
+use Rattle.cqlp_compose.proofs.WholeCells.{scalar_put}
 use Rattle.cqlp_compose.proofs.put.PutCells.put_scalar.Goals as goal
 
 pub returns-in-Ok : goal.returns-in-Ok
