@@ -24,7 +24,7 @@ use Rattle.cqlp_compose.specs.declared.put.PutCells.{PutCells}
 use Rattle.cqlp_compose.specs.Cells.{CellsState, Ends, GoesOn, Takes, begun, is_next, next_column, room, with_cell, within, without_cell}
 use Rattle.cqlp_compose.specs.Places.{described_type}
 use Rattle.cqlp_compose.specs.Put.{Answer, AreGiven, Ended, PutterState, Puts, fresh, fresh_putter, putter, within as put_within}
-use Rattle.cqlp_compose.specs.Single.{IsCellOfKind, IsNextCell, IsNextKind, IsPlain, IsScalarCell, IsWholeCell, PutsCell, PutsScalar, after_cell, null_bytes, with_length}
+use Rattle.cqlp_compose.specs.Single.{IsCellOfKind, IsNextCell, IsNextKind, IsPlain, IsScalarCell, IsWholeCell, PutsCell, PutsNull, PutsScalar, after_cell, null_bytes, with_length}
 use Rattle.cqlp_compose.proofs.CellTaking.{goes_true}
 use Rattle.cqlp_compose.proofs.Lent.{a_vec, an_atom}
 use Rattle.cqlp_compose.proofs.OneEvent.{leaf_built, null_built, empty_built}
@@ -223,23 +223,32 @@ scalar_short most k v cell s =
     let long : length (with_length (content_of v)) ≡ 4 + length (content_of v) = omega arith in
     omega (arith, ap length s.5, long, s.3, s.4)
 
-module _ (old new : PutCells) (k : Kind) (v : ScalarValue) (cell bytes before after : List ℕ) (is : IsScalarCell old.limits.bytes k v cell)
-    (changed : after ≡ bytes ++ drop (length bytes) before) where
-  abbrev all_new : PutterState
-  all_new = putter new
+pub null_short : length null_bytes < 2 ^ 32 + 4
+null_short =
+    let long : 4 ≡ length null_bytes = refl in
+    omega (arith, long)
 
-  -- it is put as its event is
-  as_event : (row column len : ℕ) → PutsCell (putter old) cell (length before) (Ok (Some len)) bytes all_new → IsNextKind old row column k
-      → Puts (putter old) (Cell_at row column (Leaf 0 v)) (length before) (Ok (Some len)) bytes all_new
-  as_event row column len x n =
-      let f = old.frame.now in
-      let event : Event = Cell_at row column (Leaf 0 v) in
-      let same = none_under_way f old.limits old.place old.place old.cells n.0 refl in
-      let put = subst (λ (t : PutterState). PutsCell t cell (length before) (Ok (Some len)) bytes all_new) same x in
-      let next : IsNextCell f old.place old.limits event cell = (n.1, n.2, n.3, (k, n.4, (refl, is))) in
-      let puts = puts_cell old.alloc f old.place old.limits event cell (length before) (Ok (Some len)) bytes all_new next put in
-      subst (λ (t : PutterState). Puts t event (length before) (Ok (Some len)) bytes all_new) (sym same) puts
+-- It is put as its event is.
+as_event : (was new : PutCells) (k : Kind) (e : CellEvent) (cell bytes before : List ℕ) → IsCellOfKind was.limits.bytes k e cell → (row column len : ℕ)
+    → is_next (begun was.frame.now was.place was.limits) (Cell_at row column e) ≡ true → PutsCell (putter was) cell (length before) (Ok (Some len)) bytes (putter new)
+    → IsNextKind was row column k → Puts (putter was) (Cell_at row column e) (length before) (Ok (Some len)) bytes (putter new)
+as_event was new k e cell bytes before is row column len at x n =
+    let f = was.frame.now in
+    let event : Event = Cell_at row column e in
+    let same = none_under_way f was.limits was.place was.place was.cells n.0 refl in
+    let put = subst (λ (t : PutterState). PutsCell t cell (length before) (Ok (Some len)) bytes (putter new)) same x in
+    let next : IsNextCell f was.place was.limits event cell = (at, n.2, n.3, (k, n.4, is)) in
+    let puts = puts_cell was.alloc f was.place was.limits event cell (length before) (Ok (Some len)) bytes (putter new) next put in
+    subst (λ (t : PutterState). Puts t event (length before) (Ok (Some len)) bytes (putter new)) (sym same) puts
 
-  pub scalar_put : (len : Option ℕ) → PutsCell (putter old) cell (length before) (Ok len) bytes all_new → PutsScalar old k v before len new after
-  scalar_put (Some len) x = (bytes, λ row column n. as_event row column len x n, changed)
-  scalar_put None x = absurd x
+pub scalar_put : (was new : PutCells) (k : Kind) (v : ScalarValue) (cell bytes before after : List ℕ) → IsScalarCell was.limits.bytes k v cell → after ≡ bytes ++ drop (length bytes) before
+    → (len : Option ℕ) → PutsCell (putter was) cell (length before) (Ok len) bytes (putter new) → PutsScalar was k v before len new after
+scalar_put was new k v cell bytes before after is changed (Some len) x =
+    (bytes, λ row column n. as_event was new k (Leaf 0 v) cell bytes before (refl, is) row column len n.1 x n, changed)
+scalar_put was new k v cell bytes before after is changed None x = absurd x
+
+pub null_put : (was new : PutCells) (bytes before after : List ℕ) → after ≡ bytes ++ drop (length bytes) before
+    → (len : Option ℕ) → PutsCell (putter was) null_bytes (length before) (Ok len) bytes (putter new) → PutsNull was before len new after
+null_put was new bytes before after changed (Some len) x =
+    (bytes, λ row column k n. as_event was new k (Null 0) null_bytes bytes before (refl, refl) row column len n.1 x n, changed)
+null_put was new bytes before after changed None x = absurd x

@@ -84,6 +84,9 @@ IsNextKind c row column k =
 abbrev pub IsNext : PutCells → Kind → Type 0
 IsNext c k = (row column : ℕ) × IsNextKind c row column k
 
+abbrev pub IsNextPlain : PutCells → Type 0
+IsNextPlain c = (k : Kind) × IsNext c k
+
 -- The next cell, whose one event is a leaf with this scalar, is put; or nothing changes.
 abbrev pub PutsScalar : PutCells → Kind → ScalarValue → (before : List ℕ) → Option ℕ → PutCells → (after : List ℕ) → Type 0
 PutsScalar old k v before (Some len) new after =
@@ -91,3 +94,11 @@ PutsScalar old k v before (Some len) new after =
     × ((row column : ℕ) → IsNextKind old row column k → Puts (putter old) (Cell_at row column (Leaf 0 v)) (length before) (Ok (Some len)) bytes (putter new))
     × (after ≡ bytes ++ drop (length bytes) before)
 PutsScalar old k v before None new after = (putter new ≡ putter old) × (after ≡ before)
+
+-- The next cell, which is null, is put; or nothing changes.
+abbrev pub PutsNull : PutCells → (before : List ℕ) → Option ℕ → PutCells → (after : List ℕ) → Type 0
+PutsNull old before (Some len) new after =
+    (bytes : List ℕ)
+    × ((row column : ℕ) (k : Kind) → IsNextKind old row column k → Puts (putter old) (Cell_at row column (Null 0)) (length before) (Ok (Some len)) bytes (putter new))
+    × (after ≡ bytes ++ drop (length bytes) before)
+PutsNull old before None new after = (putter new ≡ putter old) × (after ≡ before)

@@ -7,7 +7,7 @@ ghost use Rattle.cqlp_grammar.specs.Events.{event_of};
 ghost use Rattle.cqlp_compose.specs.Cells.{state};
 ghost use Rattle.cqlp_build_cells.specs.Building.{ends_cell};
 ghost use Rattle.cqlp_compose.specs.Put.{Ended, GoesOn, Puts, fresh_putter, putter, within};
-ghost use Rattle.cqlp_compose.specs.Single.{IsNext, IsNextCell, IsNextKind, PutsCell, PutsScalar, cell_bytes};
+ghost use Rattle.cqlp_compose.specs.Single.{IsNext, IsNextCell, IsNextKind, IsNextPlain, PutsCell, PutsNull, PutsScalar, cell_bytes};
 
 use crate::cells::PageCells;
 use crate::column::column_type;
@@ -166,6 +166,19 @@ impl<'a> PutCells<'a> {
             }
             None => None,
         }
+    }
+
+    /// Puts the next cell, which is null, and answers how many bytes it has. It is None, and nothing changes, where the page or the room has fewer.
+    #[tactic(auto, using(crate::proofs::WholeCells::null_short))]
+    #[inline(always)]
+    pub fn put_null(&mut self, room: &mut [u8]) -> Option<usize>
+        requires { IsNextPlain self.old }
+        ensures { PutsNull self.old room.old result self.new room.new }
+    {
+        let Ok(len) = self.put_cell(WholeCell::Null, room) else {
+            return None;
+        };
+        len
     }
 
     /// Takes the next event of a cell that may have several.

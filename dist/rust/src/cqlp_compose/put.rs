@@ -137,6 +137,15 @@ impl<'a> PutCells<'a> {
         }
     }
 
+    /// Puts the next cell, which is null, and answers how many bytes it has. It is None, and nothing changes, where the page or the room has fewer.
+    #[inline(always)]
+    pub(crate) fn put_null(&mut self, room: &mut [u8]) -> Option<usize> {
+        let Ok(len) = self.put_cell(WholeCell::Null, room) else {
+            return None;
+        };
+        len
+    }
+
     /// Takes the next event of a cell that may have several.
     fn take_next(&mut self, event: &Event<'_>, room: &mut [u8]) -> Result<Option<usize>, PutError> {
         let mut cells = self.take_cells();
