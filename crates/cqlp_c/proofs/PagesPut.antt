@@ -11,13 +11,13 @@ use Rattle.cqlp_c.specs.declared.encode.Unencoded.TheVariants as unencoded
 use Rattle.cqlp_c.specs.declared.numbers.TheConstants as numbers
 use Rattle.cqlp_c.specs.declared.page.Unbegun.TheVariants as unbegun
 use Rattle.cqlp_kind.specs.declared.kind.Kind.{Kind}
-use Rattle.cqlp_kind.specs.CellStep.{Leaf}
+use Rattle.cqlp_kind.specs.CellStep.{Leaf, Null}
 use Rattle.cqlp_kind.specs.Scalars.{ScalarValue}
 use Rattle.cqlp_grammar.specs.Events.{Event, Cell_at}
 use Rattle.cqlp_build_cells.specs.Building.{ends_cell}
 use Rattle.cqlp_compose.specs.declared.put.PutCells.{PutCells}
 use Rattle.cqlp_compose.specs.Put.{GoesOn, PutterState, Puts, within}
-use Rattle.cqlp_compose.specs.Single.{IsNextKind, PutsScalar}
+use Rattle.cqlp_compose.specs.Single.{IsNextKind, PutsNull, PutsScalar}
 use Rattle.cqlp_compose.specs.Measures.{event_size}
 use Rattle.cqlp_c.specs.declared.event.CqlpEvent.{CqlpEvent}
 use Rattle.cqlp_c.specs.declared.page.CqlpPut.{CqlpPut}
@@ -28,7 +28,8 @@ use Rattle.cqlp_c.specs.declared.from_c.BadEvent.{BadEvent}
 use Rattle.cqlp_compose.specs.declared.page.OpenPage.{OpenPage}
 use Rattle.cqlp_c.specs.declared.encode.CqlpEncoded.{CqlpEncoded}
 use Rattle.cqlp_c.specs.Pages.{Begins, BeginsAnew, BatchState, PutsAll, PutsFrom, PutsLeaf, PutsOne, after_event, at_begin, gone_on, measured, nothing_put, sized_on, sum_of, written_of, with_all_used}
-use Rattle.cqlp_c.specs.FromC.{content_len, event_from_c, found_leaf}
+use Rattle.cqlp_c.specs.FromC.{IsNull, content_len, event_from_c, found_leaf}
+use Rattle.cqlp_c.proofs.Leaves.{null_len, null_read}
 
 -- ---- sizes
 
@@ -253,6 +254,13 @@ anew cs contents given size old code before after new was written none is begins
 pub leaf_put : (old new : PutCells) (c : CqlpEvent) (contents before after : List ℕ) (k : Kind) (v : ScalarValue) (len : ℕ) (rest : Bor (List ℕ)) → IsNextKind old c.row c.column k
     → event_from_c c contents ≡ found_leaf c v → rest.now ≡ drop (content_len c) contents → PutsScalar old k v before (Some len) new after → PutsLeaf old c contents before (Some (len, rest)) new after
 leaf_put old new c contents before after k v len rest next read behind p = (p.0, (Cell_at c.row c.column (Leaf 0 v), read, p.1 c.row c.column next, behind), p.2)
+
+-- the event of a null that is put
+pub null_put : (old new : PutCells) (c : CqlpEvent) (contents : Bor (List ℕ)) (before after : List ℕ) (k : Kind) (len : ℕ) → IsNextKind old c.row c.column k → IsNull c
+    → PutsNull old before (Some len) new after → PutsLeaf old c contents.now before (Some (len, contents)) new after
+null_put old new c contents before after k len next null p =
+    let rest : contents.now ≡ drop (content_len c) contents.now = ap (λ (n : ℕ). drop n contents.now) (sym (null_len c null)) in
+    (p.0, (Cell_at c.row c.column (Null 0), null_read c contents.now null, p.1 c.row c.column k next, rest), p.2)
 
 -- where none is put, nothing has changed before the event is taken as any
 pub any_put : (old mid new : PutterState) (c : CqlpEvent) (contents before room after : List ℕ) (r : Result (Option ℕ × List ℕ) Unput) → mid ≡ old → room ≡ before

@@ -119,3 +119,7 @@ found_leaf c v = Ok (Cell_at c.row c.column (Leaf 0 v))
 -- What C passes is a leaf of this kind with no value around it.
 abbrev pub IsLeaf : CqlpEvent → Kind → Type 0
 IsLeaf c k = (c.tag ≡ numbers.TAG_LEAF) × (c.kind ≡ number_of_kind k) × (c.level ≡ 0)
+
+-- What C passes is a null with no value around it.
+abbrev pub IsNull : CqlpEvent → Type 0
+IsNull c = (c.tag ≡ numbers.TAG_NULL) × (c.level ≡ 0)

@@ -77,6 +77,14 @@ fn is_leaf(c_event: &CqlpEvent, kind: Kind) -> bool
     c_event.tag == TAG_LEAF && c_event.kind == kind_number(kind) && c_event.level == 0
 }
 
+/// Whether C passes a null with no value around it.
+#[inline(always)]
+pub fn is_null(c_event: &CqlpEvent) -> bool
+    ensures { IsTrue result → model.IsNull c_event.now }
+{
+    c_event.tag == TAG_NULL && c_event.level == 0
+}
+
 /// How many bytes its content has; none where it has no content.
 #[inline(always)]
 fn content_len(c_event: &CqlpEvent) -> usize

@@ -11,6 +11,7 @@ ghost use Rattle.cqlp_compose.specs.Put.{putter};
 ghost use Rattle.cqlp_compose.specs.Single.{IsNextKind};
 ghost use Rattle.cqlp_compose.specs.declared.page.OpenPage.{OpenPage as Held};
 ghost use Rattle.cqlp_compose.specs.contracts.page.OpenPage as page_of;
+ghost use Rattle.cqlp_c.specs.FromC.{IsNull};
 ghost use Rattle.cqlp_c.specs.Handle.{flag_of, owned_in};
 ghost use Rattle.cqlp_c.specs.Pages as model;
 ghost use Rattle.cqlp_c.specs.Pages.{Begins, BeginsAnew, IsPutBy, Measures, Opens, Puts, PutsAll, PutsCells, PutsLeaf, PutsOne, ReadsHead};
@@ -21,7 +22,7 @@ use crate::encode::{
     unencoded_code,
 };
 use crate::event::CqlpEvent;
-use crate::from_c::{BadEvent, event_from_c, leaf_from_c};
+use crate::from_c::{BadEvent, event_from_c, is_null, leaf_from_c};
 use crate::loose::Loose;
 use crate::numbers::*;
 use crate::versions::put;
@@ -410,14 +411,53 @@ fn put_from_c<'a>(
     ensures { (bytes : List ℕ) × PutsOne (putter cells.old) c_event.now contents.now (length room.old) (model.seen_put result) bytes (putter cells.new)
         × (room.new ≡ bytes ++ drop (length bytes) room.old) }
 {
-    match put_leaf(cells, c_event, contents, room) {
+    match put_whole(cells, c_event, contents, room) {
         Some((len, rest)) => Ok((Some(len), rest)),
         None => put_any(cells, c_event, contents, room),
     }
 }
 
-/// Puts the next cell, if this event is a leaf and all of the cell. It answers how many bytes the cell has, and the contents after its own. Where it puts
-/// nothing, nothing changes: [`put_any`] then finds out why.
+/// Puts the next cell, if this event is a leaf or a null, and all of the cell. It answers how many bytes the cell has, and the contents after its own.
+/// Where it puts nothing, nothing changes: [`put_any`] then finds out why.
+#[inline(always)]
+fn put_whole<'a>(
+    cells: &mut PutCells<'_>,
+    c_event: &CqlpEvent,
+    contents: &'a [u8],
+    room: &mut [u8],
+) -> Option<(usize, &'a [u8])>
+    ensures { PutsLeaf cells.old c_event.now contents.now room.old result cells.new room.new }
+{
+    if c_event.tag == TAG_LEAF {
+        put_leaf(cells, c_event, contents, room)
+    } else if is_null(c_event) {
+        put_null(cells, c_event, contents, room)
+    } else {
+        None
+    }
+}
+
+/// The same of a null.
+#[inline(always)]
+fn put_null<'a>(
+    cells: &mut PutCells<'_>,
+    c_event: &CqlpEvent,
+    contents: &'a [u8],
+    room: &mut [u8],
+) -> Option<(usize, &'a [u8])>
+    requires { IsNull c_event.now }
+    ensures { PutsLeaf cells.old c_event.now contents.now room.old result cells.new room.new }
+{
+    match cells.next_kind(c_event.row, c_event.column) {
+        Some(_kind) => match cells.put_null(room) {
+            Some(len) => Some((len, contents)),
+            None => None,
+        },
+        None => None,
+    }
+}
+
+/// The same of a leaf.
 #[inline(always)]
 fn put_leaf<'a>(
     cells: &mut PutCells<'_>,
@@ -427,9 +467,6 @@ fn put_leaf<'a>(
 ) -> Option<(usize, &'a [u8])>
     ensures { PutsLeaf cells.old c_event.now contents.now room.old result cells.new room.new }
 {
-    if c_event.tag != TAG_LEAF {
-        return None;
-    }
     match cells.next_kind(c_event.row, c_event.column) {
         Some(kind) => put_by_kind(cells, kind, c_event, contents, room),
         None => None,
