@@ -447,6 +447,11 @@ def print_other_ends(file, command):
             got = subprocess.run([*command, "--json", "--client", name, "--node", "::2", file], stdout=subprocess.PIPE, stderr=subprocess.DEVNULL, text=True)
             if [of["client"] for of in map(json.loads, got.stdout.splitlines())] != [f"[{text}]:10000"] * sum(other == number for other, _ in addresses()):
                 print("other objects with --client", name)
+        for what, name in (("client", text), ("node", "[::2]:9042")):
+            words = ["--summary", "--by", what, "--client", text]
+            got = subprocess.run([*command, *words, file], stdout=subprocess.PIPE, stderr=subprocess.DEVNULL, text=True).stdout.splitlines()
+            if [row.split()[11:] for row in got] != [[what], [name]]:
+                print(f"other names by {what} with --client {text}")
 
 
 def on(port, *directions, syn=True):

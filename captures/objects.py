@@ -1,7 +1,7 @@
 #!/usr/bin/env python3
 """captures/objects.py FILE COMMAND..: prints what is wrong with the objects (--json) and the summary (--summary) that `cqlp capture` writes of a
 capture, beside its lines, which lines.py reads in another way. Each object has to say what its line says, all the same first moment, and those of a
-connection the same ends; and each statement of the summary what its lines add up to."""
+connection the same ends; and each statement of the summary what its lines add up to, and with --by each client, node, opcode and error."""
 import collections
 import datetime
 import json
@@ -101,6 +101,45 @@ def sums(objects):
     return found
 
 
+def name_by(what, of):
+    """What a request is counted under with --by."""
+    if what == "client":
+        return of["client"].rpartition(":")[0].strip("[]")
+    if what in ("node", "opcode"):
+        return of[{"node": "node", "opcode": "request"}[what]]
+    if of["told"] == "unanswered":
+        return "unanswered"
+    if of["response"] != "ERROR":
+        return "cut" if of["took"] is None else "none"
+    return of["error"] if isinstance(of["error"], str) else "ERROR" if of["error"] is None else f"0x{of['error']:08x}"
+
+
+def milliseconds(nanoseconds):
+    return f"{nanoseconds // 1_000_000}.{nanoseconds // 1_000 % 1_000:03}"
+
+
+def rows_by(what, objects):
+    """The numbers of each row of a summary by this, but for the share and the percentiles."""
+    found = collections.defaultdict(lambda: ([0, 0, 0, 0, 0], []))
+    for of in objects:
+        if of["told"] in ("exchange", "unanswered"):
+            numbers, times = found[name_by(what, of)]
+            is_unanswered = of["told"] == "unanswered"
+            is_error = not is_unanswered and (of["response"] == "ERROR" or of["took"] is None)
+            sizes = of["request_bytes"] + of.get("response_bytes", 0)
+            for at, more in enumerate([1, is_error, is_unanswered, max(of.get("rows") or 0, 0), sizes]):
+                numbers[at] += more
+            if of["took"] is not None and Decimal(of["took"]) >= 0:
+                times.append(int(Decimal(of["took"]) * 1_000_000_000))
+    return {name: [milliseconds(sum(times)), *map(str, numbers), milliseconds(max(times)) if times else "-"] for name, (numbers, times) in found.items()}
+
+
+def rows_of(summary):
+    """Those that a summary has."""
+    rows = [text.split(None, 11) for text in summary]
+    return {words[11]: [*words[1:7], words[10]] for words in rows}
+
+
 def main(file, *command):
     lines, said = written(command, file)
     texts, said_of_objects = written(command, file, "--json")
@@ -121,6 +160,10 @@ def main(file, *command):
         counted[words[11]] = [int(word) for word in words[2:7]]
     if counted != sums(objects):
         print(f"{counted}\n{dict(sums(objects))}")
+    for what in ("client", "node", "opcode", "error"):
+        (heading, *rows), said_of_rows = written(command, file, "--summary", "--by", what)
+        if said_of_rows != said or heading.split()[11:] != [what] or rows_of(rows) != rows_by(what, objects):
+            print(f"by {what}: {rows_of(rows)}\n{rows_by(what, objects)}")
 
 
 if __name__ == "__main__":

@@ -113,9 +113,9 @@ hidden_is : {X : Type 0} (d : Bool) (x y : X) → d ≡ false → (if d then x e
 hidden_is true x y e = absurd cc
 hidden_is false x y e = refl
 
-reported_text : (f : ExchangeFilter) (form : ExchangeForm) (first : Option ℕ) (kn : List Preparation) (m : Summary) (s : ExchangeSums) (old new : Output) (n : Connection) (t : Report) (r : Result (Unit {0}) SinkFault) → shows f kn first n t ≡ true → WritesText old (text_of form kn first n t) r new → ReportsOne n t (account f form first kn m s old) r (account f form first kn (noted_in form kn t m) (with_report t s) new)
+reported_text : (f : ExchangeFilter) (form : ExchangeForm) (first : Option ℕ) (kn : List Preparation) (m : Summary) (s : ExchangeSums) (old new : Output) (n : Connection) (t : Report) (r : Result (Unit {0}) SinkFault) → shows f kn first n t ≡ true → WritesText old (text_of form kn first n t) r new → ReportsOne n t (account f form first kn m s old) r (account f form first kn (noted_in form kn n t m) (with_report t s) new)
 reported_text f form first kn m s old new n t (Ok u) is writes =
-    let m' = noted_in form kn t m in
+    let m' = noted_in form kn n t m in
     ap (λ (o : Output). account f form first kn m' (with_report t s) o) writes ∙ sym (shown_is (shows f kn first n t) (account f form first kn m' (with_report t s) (with_text old (text_of form kn first n t))) (account f form first kn m (with_report t s) old) is)
 reported_text f form first kn m s old new n t (Err e) is writes = record { is_shown = is; rest = refl; within = writes }
 
@@ -124,7 +124,7 @@ wrote : (w v : Written) (text : List ℕ) (r : Result (Unit {0}) SinkFault) → 
 wrote w v text r e g writes known =
     known_text w v w.given v.given w.failures v.failures w.lender text r (λ i. record { given = w.given; failures = w.failures; waiting = e i; lender = w.lender }) refl g writes known
 
-pub reported_shown : (self : Account) (f : ExchangeFilter) (form : ExchangeForm) (first : Option ℕ) (kn : List Preparation) (m m' : Summary) (s s' : ExchangeSums) (w v : Written) (n : Connection) (t : Report) (r : Result (Unit {0}) SinkFault) → account f form first kn m s (output w.given w.failures) ≡ self → s' ≡ with_report t s → m' ≡ noted_in form kn t m → w.waiting ≡ [] → v.waiting ≡ [] → shows f kn first n t ≡ true → Writes w (text_of form kn first n t) r v → IsSome self.output.given → ReportsOne n t self r (account f form first kn m' s' (output v.given v.failures))
+pub reported_shown : (self : Account) (f : ExchangeFilter) (form : ExchangeForm) (first : Option ℕ) (kn : List Preparation) (m m' : Summary) (s s' : ExchangeSums) (w v : Written) (n : Connection) (t : Report) (r : Result (Unit {0}) SinkFault) → account f form first kn m s (output w.given w.failures) ≡ self → s' ≡ with_report t s → m' ≡ noted_in form kn n t m → w.waiting ≡ [] → v.waiting ≡ [] → shows f kn first n t ≡ true → Writes w (text_of form kn first n t) r v → IsSome self.output.given → ReportsOne n t self r (account f form first kn m' s' (output v.given v.failures))
 reported_shown self f form first kn m m' s s' w v n t r view sums notes e g is writes known =
     let old = account f form first kn m s (output w.given w.failures) in
     let holds : IsSome w.given → ReportsOne n t old r (account f form first kn m' s' (output v.given v.failures)) =
@@ -136,7 +136,7 @@ reported_shown self f form first kn m m' s s' w v n t r view sums notes e g is w
 pub reported_hidden : (self : Account) (f : ExchangeFilter) (form : ExchangeForm) (first : Option ℕ) (kn : List Preparation) (m : Summary) (s s' : ExchangeSums) (o : Output) (n : Connection) (t : Report) → account f form first kn m s o ≡ self → s' ≡ with_report t s → shows f kn first n t ≡ false → account f form first kn m s' o ≡ with_shown n t self
 reported_hidden self f form first kn m s s' o n t view sums is =
     ap (λ (z : ExchangeSums). account f form first kn m z o) sums
-    ∙ sym (hidden_is (shows f kn first n t) (account f form first kn (noted_in form kn t m) (with_report t s) (with_text o (text_of form kn first n t))) (account f form first kn m (with_report t s) o) is)
+    ∙ sym (hidden_is (shows f kn first n t) (account f form first kn (noted_in form kn n t m) (with_report t s) (with_text o (text_of form kn first n t))) (account f form first kn m (with_report t s) o) is)
     ∙ ap (with_shown n t) view
 
 -- ---- the end

@@ -15,5 +15,10 @@ abbrev pub address_text : Address → List ℕ
 address_text (address.V4 octets) = ipv4_text octets
 address_text (address.V6 octets) = bracketed (segments_of octets)
 
+-- alone it has none (section 4)
+abbrev pub ip_text : Address → List ℕ
+ip_text (address.V4 octets) = ipv4_text octets
+ip_text (address.V6 octets) = ipv6_text (segments_of octets)
+
 abbrev pub end_text : Endpoint → List ℕ
 end_text e = joined (address_text e.address ∷ codes ":" ∷ decimal e.port ∷ [])

@@ -1,5 +1,6 @@
--- Requests with their responses, counted in a summary of statements.
+-- Requests with their responses, counted in a summary.
 use Rattle.std.specs.Prelude.{ℕ, ◌+◌, ℤ, pos, int_lt, unsigned_abs, Bool, true, false, ◌&&◌, nat_le, List, ◌++◌, codes, length, take, Option, Some, None, if◌then◌else◌}
+use Rattle.cqlp_note.specs.Heading.{beside_number}
 use Rattle.cqlp_note.specs.declared.opcode.Opcode.{Opcode}
 use Rattle.cqlp_note.specs.declared.opcode.Opcode.TheVariants as opcode
 use Rattle.cqlp_text.specs.Names.{opcode_name}
@@ -10,13 +11,23 @@ use Rattle.cqlp_observer.specs.Keeping.{Kept}
 use Rattle.cqlp_observer.specs.declared.message.Message.{Message}
 use Rattle.cqlp_observer.specs.declared.paired.Paired.{Paired}
 use Rattle.cqlp_observer.specs.declared.paired.Paired.TheVariants.{Exchange, Unanswered}
+use Rattle.cqlp_capture_exchanges.specs.declared.connection.Connection.{Connection}
+use Rattle.cqlp_capture_exchanges.specs.declared.reply.Reply.{Reply}
+use Rattle.cqlp_capture_exchanges.specs.declared.reply.Reply.TheVariants as reply_as
+use Rattle.cqlp_capture_exchanges.specs.declared.summary_by.Attribute.{Attribute}
+use Rattle.cqlp_capture_exchanges.specs.declared.summary_by.Attribute.TheVariants as attribute
+use Rattle.cqlp_capture_exchanges.specs.declared.summary_by.SummaryBy.{SummaryBy}
+use Rattle.cqlp_capture_exchanges.specs.declared.summary_by.SummaryBy.TheVariants as by
+use Rattle.cqlp_capture_exchanges.specs.Ends.{end_text, ip_text}
+use Rattle.cqlp_capture_exchanges.specs.Lines.{name_or_number}
 use Rattle.cqlp_capture_exchanges.specs.Prepared.{named, Preparation}
+use Rattle.cqlp_capture_exchanges.specs.Replies.{error_names, reply}
 use Rattle.cqlp_capture_exchanges.specs.Reports.{Report, Messages, Unread}
 use Rattle.cqlp_capture_exchanges.specs.declared.naming.Naming.{Naming}
 use Rattle.cqlp_capture_exchanges.specs.declared.naming.Naming.TheVariants as naming
-use Rattle.cqlp_capture_exchanges.specs.declared.noting.Outcome.{Outcome}
+use Rattle.cqlp_capture_exchanges.specs.declared.outcome.Outcome.{Outcome}
 use Rattle.cqlp_capture_exchanges.specs.declared.span.Span.{Span}
-use Rattle.cqlp_capture_exchanges.specs.Filters.{is_failure}
+use Rattle.cqlp_capture_exchanges.specs.Filters.{is_error as is_error_opcode, is_failure}
 use Rattle.cqlp_capture_exchanges.specs.Spans.{took}
 use Rattle.cqlp_capture_exchanges.specs.Statements.{Said, Text, statement}
 
@@ -35,6 +46,7 @@ rows_in (Some rows) = if int_lt (pos 0) rows then unsigned_abs rows else 0
 abbrev pub answered_by : (request response : Message Kept) → Outcome
 answered_by q r = record {
   is_answered = true;
+  reply = Some (reply r.frame.header r.kept.front);
   is_error = is_failure r.frame;
   rows = rows_in r.kept.facts.rows;
   bytes = (9 + q.frame.header.length) + (9 + r.frame.header.length);
@@ -44,7 +56,7 @@ answered_by q r = record {
 
 abbrev pub unanswered : Message Kept → Outcome
 unanswered q =
-    record { is_answered = false; is_error = false; rows = 0; bytes = 9 + q.frame.header.length; took = None; at = q.frame.begun }
+    record { is_answered = false; reply = None; is_error = false; rows = 0; bytes = 9 + q.frame.header.length; took = None; at = q.frame.begun }
 
 -- a request under a name, and whether that is all of it
 abbrev pub request_as : (name : List ℕ) → (is_whole_name : Bool) → Outcome → Request
@@ -92,11 +104,49 @@ noted_as naming.Literal r s = noted_request r s
 abbrev pub with_request : Naming → (known : List Preparation) → Message Kept → Outcome → Summary → Summary
 with_request n known q o s = noted_as n (request_named (named known (statement q.frame.header q.kept.front)) q o) s
 
-abbrev pub with_paired : Naming → (known : List Preparation) → Paired Kept → Summary → Summary
-with_paired n known (Exchange q r) s = with_request n known q (answered_by q r) s
-with_paired n known (Unanswered q) s = with_request n known q (unanswered q) s
-with_paired n known p s = s
+-- ---- the error of a reply
 
-abbrev pub with_report : Naming → (known : List Preparation) → Report → Summary → Summary
-with_report n known (Messages p end) s = with_paired n known p s
-with_report n known (Unread time o) s = s
+-- a reply that is no ERROR, and did not come to its end, or did
+abbrev pub no_error_text : (is_failure : Bool) → List ℕ
+no_error_text true = codes "cut"
+no_error_text false = codes "none"
+
+-- a reply without a code that is to be seen
+abbrev pub no_code_text : Opcode → (is_failure : Bool) → List ℕ
+no_code_text o is_failure = if is_error_opcode o then codes "ERROR" else no_error_text is_failure
+
+-- by the name of its code, or where that has none by its four bytes
+abbrev pub reply_error_text : Reply → (is_failure : Bool) → List ℕ
+reply_error_text (reply_as.Error code) is_failure = name_or_number (beside_number code error_names) code
+reply_error_text (reply_as.Result kind) is_failure = no_error_text is_failure
+reply_error_text (reply_as.Other o) is_failure = no_code_text o is_failure
+
+abbrev pub error_text : Option Reply → (is_failure : Bool) → List ℕ
+error_text None is_failure = codes "unanswered"
+error_text (Some r) is_failure = reply_error_text r is_failure
+
+-- ---- what a request is called by an attribute of it
+
+abbrev pub name_by : Attribute → Connection → Message Kept → Outcome → List ℕ
+name_by attribute.Client n q o = ip_text n.ends.client.address
+name_by attribute.Node n q o = end_text n.ends.node
+name_by attribute.Opcode n q o = opcode_name q.frame.header.opcode
+name_by attribute.Error n q o = error_text o.reply o.is_error
+
+abbrev pub with_attribute : Attribute → Connection → Message Kept → Outcome → Summary → Summary
+with_attribute a n q o s = noted_request (request_as (name_by a n q o) true o) s
+
+-- ---- by what is asked for
+
+abbrev pub with_request_by : SummaryBy → (known : List Preparation) → Connection → Message Kept → Outcome → Summary → Summary
+with_request_by (by.Statement m) known n q o s = with_request m known q o s
+with_request_by (by.Attribute a) known n q o s = with_attribute a n q o s
+
+abbrev pub with_paired : SummaryBy → (known : List Preparation) → Connection → Paired Kept → Summary → Summary
+with_paired b known n (Exchange q r) s = with_request_by b known n q (answered_by q r) s
+with_paired b known n (Unanswered q) s = with_request_by b known n q (unanswered q) s
+with_paired b known n p s = s
+
+abbrev pub with_report : SummaryBy → (known : List Preparation) → Connection → Report → Summary → Summary
+with_report b known n (Messages p end) s = with_paired b known n p s
+with_report b known n (Unread time o) s = s

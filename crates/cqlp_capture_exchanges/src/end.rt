@@ -5,7 +5,7 @@ ghost use Rattle.std.specs.Char.{digit_char};
 ghost use Rattle.std.specs.Net.Addr.{ipv6_segments};
 ghost use Rattle.std.specs.Net.Text.{groups_text, hex, hex_groups_text, ipv4_text, ipv6_text, leading_zero_digits, longest_zero_run};
 ghost use Rattle.cqlp_text.specs.Written.{Writes};
-ghost use Rattle.cqlp_capture_exchanges.specs.Ends.{address_text, bracketed, end_text};
+ghost use Rattle.cqlp_capture_exchanges.specs.Ends.{address_text, bracketed, end_text, ip_text};
 
 use cqlp_grammar::SinkFault;
 use cqlp_tcp_segment::{Address, Endpoint};
@@ -29,6 +29,19 @@ fn put_host<P: Pen>(writer: &mut TextWriter<P>, address: Address) -> Result<(), 
         Address::V6(octets) => {
             let ip = Ipv6Addr::from(octets);
             put_bracketed(writer, ip)
+        }
+    }
+}
+
+/// Takes an address as it is written without a port.
+pub(crate) fn put_ip<P: Pen>(writer: &mut TextWriter<P>, address: Address) -> Result<(), SinkFault>
+    ensures { Writes writer.old (ip_text address) result writer.new }
+{
+    match address {
+        Address::V4(octets) => put_ipv4(writer, octets),
+        Address::V6(octets) => {
+            let ip = Ipv6Addr::from(octets);
+            put_ipv6(writer, ip)
         }
     }
 }

@@ -3,7 +3,7 @@
 ghost use Rattle.std.specs.Prelude.{◌≡◌};
 ghost use Rattle.cqlp_capture_exchanges.specs.Forms.{statements_in};
 
-use crate::naming::Naming;
+use crate::summary_by::SummaryBy;
 
 /// How exchanges are written.
 #[derive(Clone, Copy, Debug, PartialEq, Eq)]
@@ -12,8 +12,8 @@ pub enum ExchangeForm {
     Lines,
     /// A JSON object in a line for each, as soon as the last byte of the response is there.
     Json,
-    /// A line for each statement at the end of the capture: how often it was asked for, and how long that took.
-    Summary(Naming),
+    /// A line for each name at the end of the capture, by which requests are counted: how many there were, and how long they took.
+    Summary(SummaryBy),
 }
 
 impl ExchangeForm {

@@ -1,6 +1,7 @@
 //! The exchanges on the connections of a capture: each request with its reply, as lines, as JSON, or in a summary.
 #![tactic(auto)]
 
+mod attribute;
 mod batch_name;
 mod capturing;
 mod connection;
@@ -8,6 +9,7 @@ mod end;
 mod exchanges;
 mod filter;
 mod form;
+mod label;
 pub mod laws;
 mod lines;
 mod losses;
@@ -15,6 +17,7 @@ mod member;
 mod naming;
 mod noting;
 mod object;
+mod outcome;
 mod part;
 mod pool;
 mod prepared;
@@ -24,6 +27,7 @@ mod reporter;
 mod slot;
 mod span;
 mod statement;
+mod summary_by;
 mod sums;
 mod table;
 
@@ -36,4 +40,5 @@ pub use part::StatementPart;
 pub use pool::ExchangeLimits;
 pub use report::{ConnectionEnd, Report};
 pub use statement::{Statement, statement_of, statements_of};
+pub use summary_by::{Attribute, SummaryBy};
 pub use sums::ExchangeSums;

@@ -499,7 +499,7 @@ fn put_unknown_kind<P: Pen>(writer: &mut TextWriter<P>, kind: u32) -> Result<(),
 }
 
 /// Takes a name, or where there is none the number's four bytes.
-fn put_name<P: Pen>(
+pub(crate) fn put_name<P: Pen>(
     writer: &mut TextWriter<P>,
     name: Option<&'static str>,
     number: u32,

@@ -1,87 +1,82 @@
-//! Requests with what came of them, counted in a summary of statements.
+//! Requests with what came of them, counted in a summary.
 
 ghost use Rattle.std.specs.Prelude.{◌≡◌, ◌&&◌, length, nat_le};
 ghost use Rattle.cqlp_capture_exchanges.specs.Reports.{report_of};
 ghost use Rattle.cqlp_capture_exchanges.specs.Forms.{noted_in};
 ghost use Rattle.cqlp_capture_exchanges.specs.Notings.{answered_by, is_batch, nanoseconds_in, noted_as, opcode_request, request_as};
-ghost use Rattle.cqlp_capture_exchanges.specs.Notings.{rows_in, text_request, unanswered, with_paired, with_report, with_request};
+ghost use Rattle.cqlp_capture_exchanges.specs.Notings.{rows_in, text_request, unanswered, with_attribute, with_paired};
+ghost use Rattle.cqlp_capture_exchanges.specs.Notings.{with_report, with_request, with_request_by};
 
+use crate::attribute::append_attribute;
 use crate::batch_name::{BatchName, MOST};
+use crate::connection::Connection;
 use crate::filter::is_failure;
 use crate::form::ExchangeForm;
+use crate::label::Label;
 use crate::naming::Naming;
+use crate::outcome::Outcome;
 use crate::prepared::{Preparation, named};
+use crate::reply::reply_of;
 use crate::report::Report;
 use crate::span::{Span, took};
 use crate::statement::{Statement, statement_of};
+use crate::summary_by::{Attribute, SummaryBy};
 use cqlp_capture_summary::{Occurrence, Summary};
 use cqlp_note::Opcode;
 use cqlp_observer::{Kept, Message, Paired};
 use cqlp_text::opcode_name;
 use std::alloc::Allocator;
 
-/// What came of a request.
-#[derive(Clone, Copy, Debug)]
-pub(crate) struct Outcome {
-    pub(crate) is_answered: bool,
-    /// Whether the response is an ERROR, or did not come to its end.
-    pub(crate) is_error: bool,
-    pub(crate) rows: u64,
-    /// Of the frames of both.
-    pub(crate) bytes: u64,
-    /// Nanoseconds until the last byte of the response.
-    pub(crate) took: Option<u64>,
-    /// When the request began, in nanoseconds.
-    pub(crate) at: Option<u64>,
-}
-
 /// Counts what is reported, where a summary is the form.
 pub(crate) fn note<A: Allocator, B: Allocator>(
     summary: &mut Summary<A>,
     form: ExchangeForm,
     known: &[Preparation<B>],
+    connection: &Connection,
     report: &Report<B>,
 )
-    ensures { summary.new ≡ noted_in form known.now (report_of report.now) summary.old }
+    ensures { summary.new ≡ noted_in form known.now connection.now (report_of report.now) summary.old }
 {
     match form {
         ExchangeForm::Lines => {}
         ExchangeForm::Json => {}
-        ExchangeForm::Summary(naming) => note_report(summary, naming, known, report),
+        ExchangeForm::Summary(by) => note_report(summary, by, known, connection, report),
     }
 }
 
 /// Counts a request with what came of it.
 fn note_report<A: Allocator, B: Allocator>(
     summary: &mut Summary<A>,
-    naming: Naming,
+    by: SummaryBy,
     known: &[Preparation<B>],
+    connection: &Connection,
     report: &Report<B>,
 )
-    ensures { summary.new ≡ with_report naming known.now (report_of report.now) summary.old }
+    ensures { summary.new ≡ with_report by known.now connection.now (report_of report.now) summary.old }
 {
     match report {
-        Report::Messages { paired, .. } => note_paired(summary, naming, known, paired),
+        Report::Messages { paired, .. } => note_paired(summary, by, known, connection, paired),
         Report::Unread { .. } => {}
     }
 }
 
 fn note_paired<A: Allocator, B: Allocator>(
     summary: &mut Summary<A>,
-    naming: Naming,
+    by: SummaryBy,
     known: &[Preparation<B>],
+    connection: &Connection,
     paired: &Paired<Kept<B>>,
 )
-    ensures { summary.new ≡ with_paired naming known.now paired.now summary.old }
+    ensures { summary.new ≡ with_paired by known.now connection.now paired.now summary.old }
 {
     match paired {
         Paired::Exchange { request, response } => {
             let outcome = answered_by(request, response);
-            note_request(summary, naming, known, request, &outcome);
+            note_by(summary, by, known, connection, request, &outcome);
         }
         Paired::Unanswered { request } => {
             let outcome = unanswered(request);
-            note_request(summary, naming, known, request, &outcome);
+            note_by(summary, by, known, connection, request, &outcome);
         }
         Paired::Unasked { .. } | Paired::Event { .. } => {}
     }
@@ -92,6 +87,7 @@ fn answered_by<B: Allocator>(request: &Message<Kept<B>>, response: &Message<Kept
 {
     Outcome {
         is_answered: true,
+        reply: Some(reply_of(&response.frame.header, response.kept.front())),
         is_error: is_failure(&response.frame),
         rows: rows_in(response.kept.facts().rows),
         bytes: (9 + request.frame.header.length as u64) + (9 + response.frame.header.length as u64),
@@ -105,6 +101,7 @@ fn unanswered<B: Allocator>(request: &Message<Kept<B>>) -> Outcome
 {
     Outcome {
         is_answered: false,
+        reply: None,
         is_error: false,
         rows: 0,
         bytes: 9 + request.frame.header.length as u64,
@@ -113,6 +110,47 @@ fn unanswered<B: Allocator>(request: &Message<Kept<B>>) -> Outcome
     }
 }
 
+/// Counts a request on this connection by what is asked for.
+fn note_by<A: Allocator, B: Allocator>(
+    summary: &mut Summary<A>,
+    by: SummaryBy,
+    known: &[Preparation<B>],
+    connection: &Connection,
+    request: &Message<Kept<B>>,
+    outcome: &Outcome,
+)
+    ensures { summary.new ≡ with_request_by by known.now connection.now request.now outcome.now summary.old }
+{
+    match by {
+        SummaryBy::Statement(naming) => note_request(summary, naming, known, request, outcome),
+        SummaryBy::Attribute(attribute) => {
+            note_attribute(summary, attribute, connection, request, outcome);
+        }
+    }
+}
+
+/// Counts a request under an attribute of it.
+fn note_attribute<A: Allocator, B: Allocator>(
+    summary: &mut Summary<A>,
+    attribute: Attribute,
+    connection: &Connection,
+    request: &Message<Kept<B>>,
+    outcome: &Outcome,
+)
+    ensures { summary.new ≡ with_attribute attribute connection.now request.now outcome.now summary.old }
+{
+    let mut label = Label::new();
+    let appended = append_attribute(attribute, connection, request, outcome, &mut label);
+    note_as(
+        summary,
+        Naming::Literal,
+        label.as_slice(),
+        appended.is_ok(),
+        outcome,
+    );
+}
+
+/// Counts a request under its statement.
 fn note_request<A: Allocator, B: Allocator>(
     summary: &mut Summary<A>,
     naming: Naming,

@@ -116,7 +116,13 @@ impl<O: Target, A: Allocator> Reporter<O, A> {
             .filter
             .shows(&self.known, self.first, connection, report)
         {
-            note(&mut self.summary, self.form, &self.known, report);
+            note(
+                &mut self.summary,
+                self.form,
+                &self.known,
+                connection,
+                report,
+            );
             put_report(
                 &mut self.writer,
                 self.form,
@@ -253,18 +259,19 @@ fn put_ending<W: Target, A: Allocator>(
     match form {
         ExchangeForm::Lines => Ok(()),
         ExchangeForm::Json => Ok(()),
-        ExchangeForm::Summary(_) => put_summary(writer, summary),
+        ExchangeForm::Summary(by) => put_summary(writer, by.heading(), summary),
     }
 }
 
-/// Takes the lines of a summary, and passes them on.
+/// Takes the lines of a summary, with this heading above the names, and passes them on.
 fn put_summary<W: Target, A: Allocator>(
     writer: &mut TextWriter<Buffered<W, A>>,
+    heading: &str,
     summary: &Summary<A>,
 ) -> Result<(), SinkFault>
-    ensures text { Writes writer.old (summary_text summary.now) result writer.new }
+    ensures text { Writes writer.old (summary_text heading.now summary.now) result writer.new }
     ensures passed { writer.new.waiting ≡ [] }
 {
-    summary.put(writer)?;
+    summary.put(writer, heading)?;
     writer.pass_on()
 }

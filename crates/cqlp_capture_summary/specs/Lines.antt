@@ -12,8 +12,11 @@ use Rattle.cqlp_capture_summary.specs.Shown.{shown_text}
 use Rattle.cqlp_capture_summary.specs.Summaries.{Summary}
 use Rattle.cqlp_capture_summary.specs.Tallies.{counted, figures_of}
 
-abbrev pub header : List ℕ
-header = codes "     %    time_ms    count errors unanswered      rows       bytes   p50_ms   p95_ms   p99_ms    max_ms statement\n"
+-- above the columns; the last has this heading
+abbrev pub header : (heading : List ℕ) → List ℕ
+header heading =
+    joined
+    (codes "     %    time_ms    count errors unanswered      rows       bytes   p50_ms   p95_ms   p99_ms    max_ms " ∷ heading ∷ codes "\n" ∷ [])
 
 -- two points behind what is not all of a name
 abbrev pub more : (is_whole : Bool) → List ℕ
@@ -77,11 +80,12 @@ abbrev pub time_with : (sum : ℕ) → List Tally → ℕ
 time_with sum [] = sum
 time_with sum (t ∷ ts) = time_with (counted sum t.time) ts
 
-abbrev pub text_of : (total : ℕ) → List Name → (weights : List ℕ) → List Tally → (others : Tally) → List ℕ
-text_of total names ws ts others = joined (header ∷ lines total names ws ts ∷ others_line total others ∷ [])
+abbrev pub text_of : (total : ℕ) → (heading : List ℕ) → List Name → (weights : List ℕ) → List Tally → (others : Tally) → List ℕ
+text_of total heading names ws ts others = joined (header heading ∷ lines total names ws ts ∷ others_line total others ∷ [])
 
-abbrev pub known_and_others : List Name → (weights : List ℕ) → (known : List Tally) → (others : Tally) → List ℕ
-known_and_others names ws ts others = text_of (time_with others.time ts) names ws ts others
+abbrev pub known_and_others : (heading : List ℕ) → List Name → (weights : List ℕ) → (known : List Tally) → (others : Tally) → List ℕ
+known_and_others heading names ws ts others = text_of (time_with others.time ts) heading names ws ts others
 
-abbrev pub summary_text : Summary → List ℕ
-summary_text s = known_and_others s.names s.weights (take (length s.names) s.tallies) s.others
+-- the heading is that of the names
+abbrev pub summary_text : (heading : List ℕ) → Summary → List ℕ
+summary_text heading s = known_and_others heading s.names s.weights (take (length s.names) s.tallies) s.others

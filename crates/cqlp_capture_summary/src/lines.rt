@@ -2,7 +2,7 @@
 
 ghost use Rattle.std.specs.Prelude.{◌≡◌, ◌<◌, length};
 ghost use Rattle.cqlp_text.specs.Written.{Writes};
-ghost use Rattle.cqlp_capture_summary.specs.Lines.{counts_text, figures_line, known_and_others, line_at, line_if, lines, lines_of_rank, missing_text};
+ghost use Rattle.cqlp_capture_summary.specs.Lines.{counts_text, figures_line, header, known_and_others, line_at, line_if, lines, lines_of_rank, missing_text};
 ghost use Rattle.cqlp_capture_summary.specs.Lines.{more, name_text, others_line, some_missing_text, text_front, time_with, times_text};
 ghost use Rattle.cqlp_capture_summary.specs.Names.{name};
 ghost use Rattle.cqlp_capture_summary.specs.Order.{AreRanks};
@@ -15,13 +15,14 @@ use crate::tally::{Figures, Tally, Times};
 use cqlp_grammar::SinkFault;
 use cqlp_text::{Pen, TextWriter};
 
-/// What is above the columns.
+/// What is above the columns but for the last.
 const HEADER: &str =
-    "     %    time_ms    count errors unanswered      rows       bytes   p50_ms   p95_ms   p99_ms    max_ms statement\n";
+    "     %    time_ms    count errors unanswered      rows       bytes   p50_ms   p95_ms   p99_ms    max_ms ";
 
-/// Takes the line above the columns, a line for each of the statements that are distinguished, and one for all others if there are any.
+/// Takes the line above the columns, whose last has this heading, a line for each of the statements that are distinguished, and one for all others if there are any.
 pub(crate) fn put_summary<P: Pen>(
     writer: &mut TextWriter<P>,
+    heading: &str,
     names: &[Name],
     weights: &[u64],
     tallies: &[Tally],
@@ -29,12 +30,21 @@ pub(crate) fn put_summary<P: Pen>(
 ) -> Result<(), SinkFault>
     requires lengths { length names.now ≡ length tallies.now }
     requires weights { length weights.now ≡ length tallies.now }
-    ensures { Writes writer.old (known_and_others names.now weights.now tallies.now others.now) result writer.new }
+    ensures { Writes writer.old (known_and_others heading.now names.now weights.now tallies.now others.now) result writer.new }
 {
     let total = time_with(others.time(), tallies);
-    writer.put_str(HEADER)?;
+    put_header(writer, heading)?;
     put_lines(writer, total, names, weights, tallies)?;
     put_others(writer, total, others)
+}
+
+/// Takes the line above the columns, whose last has this heading.
+fn put_header<P: Pen>(writer: &mut TextWriter<P>, heading: &str) -> Result<(), SinkFault>
+    ensures { Writes writer.old (header heading.now) result writer.new }
+{
+    writer.put_str(HEADER)?;
+    writer.put_str(heading)?;
+    writer.put(b"\n")
 }
 
 /// A time and those of all statements, in nanoseconds.

@@ -242,12 +242,19 @@ impl<A: Allocator> Summary<A> {
         self.others[0].figures()
     }
 
-    /// Writes a line for each statement, the one that took most time in sum first, and a line for all others.
-    pub fn put<P: Pen>(&self, writer: &mut TextWriter<P>) -> Result<(), SinkFault>
-        ensures { Writes writer.old (summary_text self.now) result writer.new }
+    /// Writes a line for each statement, the one that took most time in sum first, and a line for all others. Above the names is this heading.
+    pub fn put<P: Pen>(&self, writer: &mut TextWriter<P>, heading: &str) -> Result<(), SinkFault>
+        ensures { Writes writer.old (summary_text heading.now self.now) result writer.new }
     {
         let known = &self.tallies[..self.names.len()];
-        put_summary(writer, &self.names, &self.weights, known, &self.others[0])
+        put_summary(
+            writer,
+            heading,
+            &self.names,
+            &self.weights,
+            known,
+            &self.others[0],
+        )
     }
 }
 

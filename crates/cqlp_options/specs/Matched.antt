@@ -14,6 +14,8 @@ use Rattle.cqlp_options.specs.declared.capture.CaptureTask.TheVariants as captur
 use Rattle.cqlp_options.specs.declared.capture.ExchangeOptions.{ExchangeOptions}
 use Rattle.cqlp_options.specs.declared.capture.ExchangesAs.{ExchangesAs}
 use Rattle.cqlp_options.specs.declared.capture.ExchangesAs.TheVariants as exchanges_as
+use Rattle.cqlp_options.specs.declared.capture.SummaryBy.{SummaryBy}
+use Rattle.cqlp_options.specs.declared.capture.SummaryBy.TheVariants as by
 use Rattle.cqlp_options.specs.declared.command_line.CommandLine.{CommandLine}
 use Rattle.cqlp_options.specs.declared.command_line.CommandLine.TheVariants as line
 use Rattle.cqlp_options.specs.declared.end.AskedEnd.{AskedEnd}
@@ -113,9 +115,28 @@ pub record AreOptions (name : Text) (rows : List Row) (options : Options) : Type
 
 -- ---- a task with a capture
 
+-- the word that says what a summary is by
+abbrev pub by_word : List Row → Text
+by_word rows = unwrap_or (first_of (codes "by") rows) (codes "statement")
+
+abbrev pub by_name : SummaryBy → Text
+by_name (by.Statement literal) = codes "statement"
+by_name by.Client = codes "client"
+by_name by.Node = codes "node"
+by_name by.Opcode = codes "opcode"
+by_name by.Error = codes "error"
+
+abbrev pub is_literal : SummaryBy → Bool
+is_literal (by.Statement literal) = literal
+is_literal b = false
+
+-- Literals count for themselves in a summary by statements alone.
+abbrev pub IsSummaryBy : List Row → SummaryBy → Type 0
+IsSummaryBy rows b = (by_word rows ≡ by_name b) × IsFlag (codes "literal") rows (is_literal b)
+
 -- where both are asked for it is a summary
 abbrev pub IsExchangesForm : List Row → ExchangesAs → Type 0
-IsExchangesForm rows (exchanges_as.Summary literal) = IsFlag (codes "summary") rows true × IsFlag (codes "literal") rows literal
+IsExchangesForm rows (exchanges_as.Summary b) = IsFlag (codes "summary") rows true × IsSummaryBy rows b
 IsExchangesForm rows exchanges_as.Json = IsFlag (codes "summary") rows false × IsFlag (codes "json") rows true
 IsExchangesForm rows exchanges_as.Lines = IsFlag (codes "summary") rows false × IsFlag (codes "json") rows false
 

@@ -66,6 +66,7 @@ capture =
     ∷ bound (named (codes "streams"))
     ∷ bound (flag (codes "json"))
     ∷ bound (flag (codes "summary"))
+    ∷ bound (named (codes "by"))
     ∷ bound (flag (codes "literal"))
     ∷ bound (flag (codes "events"))
     ∷ bound (flag (codes "rows"))

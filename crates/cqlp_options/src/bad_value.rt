@@ -15,6 +15,10 @@ pub(crate) enum BadValue {
     From,
     /// What is to be the latest time is none.
     To,
+    /// A summary counts by nothing of this name.
+    By,
+    /// A summary counts statements by their texts and by something else.
+    Literal,
 }
 
 impl BadValue {
@@ -37,6 +41,12 @@ impl BadValue {
             }
             BadValue::To => {
                 "invalid value for '--to <SECONDS>': it is no number of seconds with up to nine digits after the point"
+            }
+            BadValue::By => {
+                "invalid value for '--by <WHAT>': it is none of statement, client, node, opcode and error"
+            }
+            BadValue::Literal => {
+                "the argument '--literal' cannot be used with '--by <WHAT>', unless that is statement"
             }
         }
     }

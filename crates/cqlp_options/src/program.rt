@@ -334,7 +334,7 @@ const ALL: LimitRange = LimitRange {
 
 /// What `capture` takes. The help of a limit has its range and what the number is where it is not given, and docs/check compares both
 /// with `CaptureLimits`.
-const CAPTURE: [Word; 22] = [
+const CAPTURE: [Word; 23] = [
     Word {
         name: "file",
         form: Form::File,
@@ -445,6 +445,14 @@ const CAPTURE: [Word; 22] = [
             most time first",
         with: &[],
         without: &["streams", "json"],
+    },
+    Word {
+        name: "by",
+        form: Form::Text("WHAT"),
+        help: "With --summary, count requests by this: client (its address), node, opcode, error (of the reply) or statement \
+            [default: statement]",
+        with: &["summary"],
+        without: &["streams", "json", "events", "rows"],
     },
     Word {
         name: "literal",

@@ -6,6 +6,8 @@ use Rattle.cqlp_options.specs.declared.capture.CaptureTask.TheVariants as task
 use Rattle.cqlp_options.specs.declared.capture.ExchangeOptions.{ExchangeOptions}
 use Rattle.cqlp_options.specs.declared.capture.ExchangesAs.{ExchangesAs}
 use Rattle.cqlp_options.specs.declared.capture.ExchangesAs.TheVariants as asked_as
+use Rattle.cqlp_options.specs.declared.capture.SummaryBy as options
+use Rattle.cqlp_options.specs.declared.capture.SummaryBy.TheVariants as asked_by
 use Rattle.cqlp_options.specs.declared.end.AskedEnd.{AskedEnd}
 use Rattle.cqlp_options.specs.declared.limits.CaptureLimits.{CaptureLimits}
 use Rattle.cqlp_text.specs.Endings.{cannot_open_line}
@@ -20,6 +22,9 @@ use Rattle.cqlp_capture_exchanges.specs.declared.form.ExchangeForm.{ExchangeForm
 use Rattle.cqlp_capture_exchanges.specs.declared.form.ExchangeForm.TheVariants as form
 use Rattle.cqlp_capture_exchanges.specs.declared.naming.Naming.TheVariants as naming
 use Rattle.cqlp_capture_exchanges.specs.declared.pool.ExchangeLimits.{ExchangeLimits}
+use Rattle.cqlp_capture_exchanges.specs.declared.summary_by.Attribute.TheVariants as attribute
+use Rattle.cqlp_capture_exchanges.specs.declared.summary_by.SummaryBy.{SummaryBy}
+use Rattle.cqlp_capture_exchanges.specs.declared.summary_by.SummaryBy.TheVariants as by
 use Rattle.cqlp_capture_exchanges.specs.Capturing.{WritesExchanges}
 use Rattle.cqlp_capture_exchanges.specs.Parts.{part_of}
 use Rattle.cqlp_capture_events.specs.Capturing.{WritesEvents}
@@ -76,12 +81,20 @@ filter_of asked =
       connection = asked.connection;
     }
 
+-- what a summary is by
+abbrev pub summary_by : options.SummaryBy → SummaryBy
+summary_by (asked_by.Statement false) = by.Statement naming.Fingerprint
+summary_by (asked_by.Statement true) = by.Statement naming.Literal
+summary_by asked_by.Client = by.Attribute attribute.Client
+summary_by asked_by.Node = by.Attribute attribute.Node
+summary_by asked_by.Opcode = by.Attribute attribute.Opcode
+summary_by asked_by.Error = by.Attribute attribute.Error
+
 -- and how they are written
 abbrev pub form_of : ExchangesAs → ExchangeForm
 form_of asked_as.Lines = form.Lines
 form_of asked_as.Json = form.Json
-form_of (asked_as.Summary false) = form.Summary naming.Fingerprint
-form_of (asked_as.Summary true) = form.Summary naming.Literal
+form_of (asked_as.Summary b) = form.Summary (summary_by b)
 
 -- The input's exchanges that were asked for went to the output, and how it ended was reported with its status, after so many reads.
 abbrev pub PrintsExchanges : Buffering → StreamsLimits → ExchangeLimits → ExchangeOptions → (ports : List ℕ) → (before : Streams) → (status : ℕ) → (after : Streams) → Type 0

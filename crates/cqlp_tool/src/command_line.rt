@@ -8,7 +8,7 @@ ghost use Rattle.cqlp_options.specs.Ports.{AreWithin, named};
 ghost use Rattle.cqlp_options.specs.declared.capture.CaptureTask.TheVariants as tasks;
 ghost use Rattle.cqlp_tcp_connections.specs.Limits.{is_in_range};
 ghost use Rattle.cqlp_capture_streams.specs.declared.buffering.Buffering.TheVariants.{Line};
-ghost use Rattle.cqlp_tool.specs.Capturing.{DoesCaptureTask, IsCaptureOfInput, SplitsToFolder, end_filter_of, filter_of, form_of};
+ghost use Rattle.cqlp_tool.specs.Capturing.{DoesCaptureTask, IsCaptureOfInput, SplitsToFolder, end_filter_of, filter_of, form_of, summary_by};
 ghost use Rattle.cqlp_tool.specs.CommandLines.{Complains, DoesTask, Executes, Helps, NeedsNoInput, Performs, ReadsNoCapture};
 ghost use Rattle.cqlp_tool.specs.CommandLines.{ReportsFault, ReportsWrong, PrintsNoTask, form_of_events, form_of_rows, rules_for};
 ghost use Rattle.cqlp_tool.specs.Files.{DoesOn};
@@ -24,7 +24,8 @@ use crate::marks::MARK;
 use crate::progress::Progress;
 use cqlp_capture_events::write_events;
 use cqlp_capture_exchanges::{
-    EndFilter, ExchangeFilter, ExchangeForm, Naming, StatementPart, write_exchanges,
+    Attribute, EndFilter, ExchangeFilter, ExchangeForm, Naming, StatementPart, SummaryBy,
+    write_exchanges,
 };
 use cqlp_capture_rows::write_rows;
 use cqlp_capture_streams::{Buffering, StreamsLimits, write_streams};
@@ -32,7 +33,7 @@ use cqlp_decode::SinkFault;
 use cqlp_note::{OfStd, Source, Target};
 use cqlp_options::{
     AskedEnd, AtRefusal, CaptureOptions, CaptureTask, CommandLine, DEFAULT_LIMITS, EventsAs,
-    ExchangeOptions, ExchangesAs, NoTask, Options, RowsAs, Task,
+    ExchangeOptions, ExchangesAs, NoTask, Options, RowsAs, SummaryBy as AskedBy, Task,
 };
 use cqlp_render::{TextForm, check, conclude, show, show_as};
 use cqlp_render_skip::{check_skipping, show_skipping};
@@ -331,8 +332,20 @@ fn form_of(asked: ExchangesAs) -> ExchangeForm
     match asked {
         ExchangesAs::Lines => ExchangeForm::Lines,
         ExchangesAs::Json => ExchangeForm::Json,
-        ExchangesAs::Summary { literal: false } => ExchangeForm::Summary(Naming::Fingerprint),
-        ExchangesAs::Summary { literal: true } => ExchangeForm::Summary(Naming::Literal),
+        ExchangesAs::Summary(by) => ExchangeForm::Summary(summary_by(by)),
+    }
+}
+
+fn summary_by(asked: AskedBy) -> SummaryBy
+    ensures { result ≡ summary_by asked }
+{
+    match asked {
+        AskedBy::Statement { literal: false } => SummaryBy::Statement(Naming::Fingerprint),
+        AskedBy::Statement { literal: true } => SummaryBy::Statement(Naming::Literal),
+        AskedBy::Client => SummaryBy::Attribute(Attribute::Client),
+        AskedBy::Node => SummaryBy::Attribute(Attribute::Node),
+        AskedBy::Opcode => SummaryBy::Attribute(Attribute::Opcode),
+        AskedBy::Error => SummaryBy::Attribute(Attribute::Error),
     }
 }
 

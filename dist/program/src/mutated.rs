@@ -5,7 +5,7 @@
 use crate::cqlp_tcp_connections::Way;
 use crate::cqlp_capture_events::write_events;
 use crate::cqlp_capture_rows::write_rows;
-use crate::cqlp_capture_exchanges::{ExchangeFilter, ExchangeForm, ExchangeLimits, Naming, write_exchanges};
+use crate::cqlp_capture_exchanges::{Attribute, ExchangeFilter, ExchangeForm, ExchangeLimits, Naming, SummaryBy, write_exchanges};
 use crate::cqlp_note::{IoFault, OfStd, Source};
 use crate::cqlp_capture_streams::{Buffering, FileFault, StreamFile, StreamFiles, StreamsLimits, write_streams};
 use crate::heap::measured;
@@ -201,6 +201,11 @@ fn changed(numbers: &mut Numbers, records: &[Vec<u8>]) -> Vec<Vec<u8>> {
     packets
 }
 
+/// What the numbers in a column of a summary add up to.
+fn sum_of(summary: &Outcome, column: usize) -> usize {
+    summary.1.lines().skip(1).map(|line| line.split_whitespace().nth(column).unwrap().parse::<usize>().unwrap()).sum()
+}
+
 #[test]
 fn changed_captures() {
     let count: usize = std::env::var("CQLP_STREAMS").map_or(3_000, |text| text.parse().unwrap());
@@ -227,16 +232,19 @@ fn changed_captures() {
         let faulty = made(&file, most, ports, numbers.below(5_000));
         assert!(faulty.status == 3 || faulty == whole);
         assert!(whole.kept.starts_with(&faulty.kept) && whole.lines.starts_with(&faulty.lines));
-        let [lines, objects, summary] = [ExchangeForm::Lines, ExchangeForm::Json, ExchangeForm::Summary(Naming::Fingerprint)].map(|form| {
+        let [lines, objects, summary] = [ExchangeForm::Lines, ExchangeForm::Json, ExchangeForm::Summary(SummaryBy::Statement(Naming::Fingerprint))].map(|form| {
             let whole = exchanges(&file, usize::MAX, ports, ExchangeFilter::ALL, form);
             assert_eq!(exchanges(&file, most, ports, ExchangeFilter::ALL, form), whole);
             whole
         });
         assert_eq!((objects.0, objects.1.lines().count(), &objects.2), (lines.0, lines.1.lines().count(), &lines.2));
         assert_eq!((summary.0, &summary.2), (lines.0, &lines.2));
-        let sum = |column| summary.1.lines().skip(1).map(|line| line.split_whitespace().nth(column).unwrap().parse::<usize>().unwrap()).sum::<usize>();
-        let (counted, unanswered) = (sum(2), sum(4));
+        let (counted, unanswered) = (sum_of(&summary, 2), sum_of(&summary, 4));
         assert_eq!(counted - unanswered, lines.1.lines().filter(|line| line.ends_with(" ms")).count());
+        let attribute = numbers.one_of(&[Attribute::Client, Attribute::Node, Attribute::Opcode, Attribute::Error]);
+        let by = exchanges(&file, most, ports, ExchangeFilter::ALL, ExchangeForm::Summary(SummaryBy::Attribute(attribute)));
+        assert_eq!((by.0, &by.2), (lines.0, &lines.2));
+        (2..=6).for_each(|column| assert_eq!(sum_of(&by, column), sum_of(&summary, column)));
         assert_eq!(events(&file, most, ports), events(&file, usize::MAX, ports));
         let connection = 1 + numbers.below(20) as u64;
         assert_eq!(rows(&file, most, ports, connection), rows(&file, usize::MAX, ports, connection));

@@ -80,7 +80,7 @@ fn occurrence_of(line: &str) -> Occurrence<'_> {
 fn written(summary: &Summary) -> String {
     let mut out = OfStd::new(Vec::new());
     let mut writer = TextWriter::over(&mut out);
-    summary.put(&mut writer).and(writer.flush()).unwrap();
+    summary.put(&mut writer, "statement").and(writer.flush()).unwrap();
     let _ = writer.into_target();
     String::from_utf8(out.into_inner()).unwrap()
 }

@@ -23,6 +23,17 @@ fn put_host<P: Pen>(writer: &mut TextWriter<P>, address: Address) -> Result<(), 
     }
 }
 
+/// Takes an address as it is written without a port.
+pub(crate) fn put_ip<P: Pen>(writer: &mut TextWriter<P>, address: Address) -> Result<(), SinkFault> {
+    match address {
+        Address::V4(octets) => put_ipv4(writer, octets),
+        Address::V6(octets) => {
+            let ip = Ipv6Addr::from(octets);
+            put_ipv6(writer, ip)
+        }
+    }
+}
+
 /// Takes four octets as decimal numbers with dots.
 fn put_ipv4<P: Pen>(writer: &mut TextWriter<P>, octets: [u8; 4]) -> Result<(), SinkFault> {
     writer.put_address(crate::cqlp_note::Address::V4(octets))

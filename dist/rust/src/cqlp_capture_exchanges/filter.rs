@@ -179,7 +179,8 @@ pub(crate) fn is_failure(response: &Frame) -> bool {
     is_error(response.header.opcode) || is_short(response.extent)
 }
 
-fn is_error(opcode: Opcode) -> bool {
+/// Whether this is the opcode of an ERROR.
+pub(crate) fn is_error(opcode: Opcode) -> bool {
     opcode == Opcode::Error
 }
 

@@ -1,7 +1,7 @@
 // Written by dist/erase from crates/cqlp_capture_exchanges/src/form.rt.
 //! How exchanges are written.
 
-use crate::cqlp_capture_exchanges::naming::Naming;
+use crate::cqlp_capture_exchanges::summary_by::SummaryBy;
 
 /// How exchanges are written.
 #[derive(Clone, Copy, Debug, PartialEq, Eq)]
@@ -10,8 +10,8 @@ pub enum ExchangeForm {
     Lines,
     /// A JSON object in a line for each, as soon as the last byte of the response is there.
     Json,
-    /// A line for each statement at the end of the capture: how often it was asked for, and how long that took.
-    Summary(Naming),
+    /// A line for each name at the end of the capture, by which requests are counted: how many there were, and how long they took.
+    Summary(SummaryBy),
 }
 
 impl ExchangeForm {

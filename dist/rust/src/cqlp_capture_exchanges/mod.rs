@@ -1,6 +1,7 @@
 // Written by dist/erase from crates/cqlp_capture_exchanges/src/lib.rt.
 //! The exchanges on the connections of a capture: each request with its reply, as lines, as JSON, or in a summary.
 
+mod attribute;
 mod batch_name;
 mod capturing;
 mod connection;
@@ -8,12 +9,14 @@ mod end;
 mod exchanges;
 mod filter;
 mod form;
+mod label;
 mod lines;
 mod losses;
 mod member;
 mod naming;
 mod noting;
 mod object;
+mod outcome;
 mod part;
 mod pool;
 mod prepared;
@@ -23,6 +26,7 @@ mod reporter;
 mod slot;
 mod span;
 mod statement;
+mod summary_by;
 mod sums;
 mod table;
 
@@ -35,4 +39,5 @@ pub use part::StatementPart;
 pub use pool::ExchangeLimits;
 pub use report::{ConnectionEnd, Report};
 pub use statement::{Statement, statement_of, statements_of};
+pub use summary_by::{Attribute, SummaryBy};
 pub use sums::ExchangeSums;

@@ -1,79 +1,73 @@
 // Written by dist/erase from crates/cqlp_capture_exchanges/src/noting.rt.
-//! Requests with what came of them, counted in a summary of statements.
+//! Requests with what came of them, counted in a summary.
 
+use crate::cqlp_capture_exchanges::attribute::append_attribute;
 use crate::cqlp_capture_exchanges::batch_name::{BatchName, MOST};
+use crate::cqlp_capture_exchanges::connection::Connection;
 use crate::cqlp_capture_exchanges::filter::is_failure;
 use crate::cqlp_capture_exchanges::form::ExchangeForm;
+use crate::cqlp_capture_exchanges::label::Label;
 use crate::cqlp_capture_exchanges::naming::Naming;
+use crate::cqlp_capture_exchanges::outcome::Outcome;
 use crate::cqlp_capture_exchanges::prepared::{Preparation, named};
+use crate::cqlp_capture_exchanges::reply::reply_of;
 use crate::cqlp_capture_exchanges::report::Report;
 use crate::cqlp_capture_exchanges::span::{Span, took};
 use crate::cqlp_capture_exchanges::statement::{Statement, statement_of};
+use crate::cqlp_capture_exchanges::summary_by::{Attribute, SummaryBy};
 use crate::cqlp_capture_summary::{Occurrence, Summary};
 use crate::cqlp_note::Opcode;
 use crate::cqlp_observer::{Kept, Message, Paired};
 use crate::cqlp_text::opcode_name;
 use crate::kit_std::alloc::Allocator;
 
-/// What came of a request.
-#[derive(Clone, Copy, Debug)]
-pub(crate) struct Outcome {
-    pub(crate) is_answered: bool,
-    /// Whether the response is an ERROR, or did not come to its end.
-    pub(crate) is_error: bool,
-    pub(crate) rows: u64,
-    /// Of the frames of both.
-    pub(crate) bytes: u64,
-    /// Nanoseconds until the last byte of the response.
-    pub(crate) took: Option<u64>,
-    /// When the request began, in nanoseconds.
-    pub(crate) at: Option<u64>,
-}
-
 /// Counts what is reported, where a summary is the form.
 pub(crate) fn note<A: Allocator, B: Allocator>(
     summary: &mut Summary<A>,
     form: ExchangeForm,
     known: &[Preparation<B>],
+    connection: &Connection,
     report: &Report<B>,
 )
 {
     match form {
         ExchangeForm::Lines => {}
         ExchangeForm::Json => {}
-        ExchangeForm::Summary(naming) => note_report(summary, naming, known, report),
+        ExchangeForm::Summary(by) => note_report(summary, by, known, connection, report),
     }
 }
 
 /// Counts a request with what came of it.
 fn note_report<A: Allocator, B: Allocator>(
     summary: &mut Summary<A>,
-    naming: Naming,
+    by: SummaryBy,
     known: &[Preparation<B>],
+    connection: &Connection,
     report: &Report<B>,
 )
 {
     match report {
-        Report::Messages { paired, .. } => note_paired(summary, naming, known, paired),
+        Report::Messages { paired, .. } => note_paired(summary, by, known, connection, paired),
         Report::Unread { .. } => {}
     }
 }
 
 fn note_paired<A: Allocator, B: Allocator>(
     summary: &mut Summary<A>,
-    naming: Naming,
+    by: SummaryBy,
     known: &[Preparation<B>],
+    connection: &Connection,
     paired: &Paired<Kept<B>>,
 )
 {
     match paired {
         Paired::Exchange { request, response } => {
             let outcome = answered_by(request, response);
-            note_request(summary, naming, known, request, &outcome);
+            note_by(summary, by, known, connection, request, &outcome);
         }
         Paired::Unanswered { request } => {
             let outcome = unanswered(request);
-            note_request(summary, naming, known, request, &outcome);
+            note_by(summary, by, known, connection, request, &outcome);
         }
         Paired::Unasked { .. } | Paired::Event { .. } => {}
     }
@@ -82,6 +76,7 @@ fn note_paired<A: Allocator, B: Allocator>(
 fn answered_by<B: Allocator>(request: &Message<Kept<B>>, response: &Message<Kept<B>>) -> Outcome {
     Outcome {
         is_answered: true,
+        reply: Some(reply_of(&response.frame.header, response.kept.front())),
         is_error: is_failure(&response.frame),
         rows: rows_in(response.kept.facts().rows),
         bytes: (9 + request.frame.header.length as u64) + (9 + response.frame.header.length as u64),
@@ -93,6 +88,7 @@ fn answered_by<B: Allocator>(request: &Message<Kept<B>>, response: &Message<Kept
 fn unanswered<B: Allocator>(request: &Message<Kept<B>>) -> Outcome {
     Outcome {
         is_answered: false,
+        reply: None,
         is_error: false,
         rows: 0,
         bytes: 9 + request.frame.header.length as u64,
@@ -101,6 +97,45 @@ fn unanswered<B: Allocator>(request: &Message<Kept<B>>) -> Outcome {
     }
 }
 
+/// Counts a request on this connection by what is asked for.
+fn note_by<A: Allocator, B: Allocator>(
+    summary: &mut Summary<A>,
+    by: SummaryBy,
+    known: &[Preparation<B>],
+    connection: &Connection,
+    request: &Message<Kept<B>>,
+    outcome: &Outcome,
+)
+{
+    match by {
+        SummaryBy::Statement(naming) => note_request(summary, naming, known, request, outcome),
+        SummaryBy::Attribute(attribute) => {
+            note_attribute(summary, attribute, connection, request, outcome);
+        }
+    }
+}
+
+/// Counts a request under an attribute of it.
+fn note_attribute<A: Allocator, B: Allocator>(
+    summary: &mut Summary<A>,
+    attribute: Attribute,
+    connection: &Connection,
+    request: &Message<Kept<B>>,
+    outcome: &Outcome,
+)
+{
+    let mut label = Label::new();
+    let appended = append_attribute(attribute, connection, request, outcome, &mut label);
+    note_as(
+        summary,
+        Naming::Literal,
+        label.as_slice(),
+        appended.is_ok(),
+        outcome,
+    );
+}
+
+/// Counts a request under its statement.
 fn note_request<A: Allocator, B: Allocator>(
     summary: &mut Summary<A>,
     naming: Naming,

@@ -9,22 +9,30 @@ use crate::cqlp_capture_summary::tally::{Figures, Tally, Times};
 use crate::cqlp_grammar::SinkFault;
 use crate::cqlp_text::{Pen, TextWriter};
 
-/// What is above the columns.
+/// What is above the columns but for the last.
 const HEADER: &str =
-    "     %    time_ms    count errors unanswered      rows       bytes   p50_ms   p95_ms   p99_ms    max_ms statement\n";
+    "     %    time_ms    count errors unanswered      rows       bytes   p50_ms   p95_ms   p99_ms    max_ms ";
 
-/// Takes the line above the columns, a line for each of the statements that are distinguished, and one for all others if there are any.
+/// Takes the line above the columns, whose last has this heading, a line for each of the statements that are distinguished, and one for all others if there are any.
 pub(crate) fn put_summary<P: Pen>(
     writer: &mut TextWriter<P>,
+    heading: &str,
     names: &[Name],
     weights: &[u64],
     tallies: &[Tally],
     others: &Tally,
 ) -> Result<(), SinkFault> {
     let total = time_with(others.time(), tallies);
-    writer.put_str(HEADER)?;
+    put_header(writer, heading)?;
     put_lines(writer, total, names, weights, tallies)?;
     put_others(writer, total, others)
+}
+
+/// Takes the line above the columns, whose last has this heading.
+fn put_header<P: Pen>(writer: &mut TextWriter<P>, heading: &str) -> Result<(), SinkFault> {
+    writer.put_str(HEADER)?;
+    writer.put_str(heading)?;
+    writer.put(b"\n")
 }
 
 /// A time and those of all statements, in nanoseconds.

@@ -177,10 +177,17 @@ impl<A: Allocator> Summary<A> {
         self.others[0].figures()
     }
 
-    /// Writes a line for each statement, the one that took most time in sum first, and a line for all others.
-    pub fn put<P: Pen>(&self, writer: &mut TextWriter<P>) -> Result<(), SinkFault> {
+    /// Writes a line for each statement, the one that took most time in sum first, and a line for all others. Above the names is this heading.
+    pub fn put<P: Pen>(&self, writer: &mut TextWriter<P>, heading: &str) -> Result<(), SinkFault> {
         let known = &self.tallies[..self.names.len()];
-        put_summary(writer, &self.names, &self.weights, known, &self.others[0])
+        put_summary(
+            writer,
+            heading,
+            &self.names,
+            &self.weights,
+            known,
+            &self.others[0],
+        )
     }
 }
 

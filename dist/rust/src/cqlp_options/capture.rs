@@ -57,24 +57,72 @@ pub enum ExchangesAs {
     Lines,
     /// A JSON object in a line for each.
     Json,
-    /// A line for each statement at the end.
-    Summary {
-        /// Whether statements that differ in their literals alone count each for itself.
-        literal: bool,
-    },
+    /// A line at the end for each of what they are counted by.
+    Summary(SummaryBy),
 }
 
 impl ExchangesAs {
-    fn matched(matches: &ArgMatches<'_>) -> ExchangesAs {
+    fn matched(matches: &ArgMatches<'_>) -> Result<ExchangesAs, BadValue> {
         if flag(matches, "summary") {
-            ExchangesAs::Summary {
-                literal: flag(matches, "literal"),
-            }
-        } else if flag(matches, "json") {
-            ExchangesAs::Json
-        } else {
-            ExchangesAs::Lines
+            let by = SummaryBy::matched(matches)?;
+            return Ok(ExchangesAs::Summary(by));
         }
+        if flag(matches, "json") {
+            Ok(ExchangesAs::Json)
+        } else {
+            Ok(ExchangesAs::Lines)
+        }
+    }
+}
+
+/// What the requests of a summary are counted by.
+#[derive(Clone, Copy, Debug, PartialEq, Eq)]
+pub enum SummaryBy {
+    Statement {
+        /// Whether statements that differ in their literals alone count each for itself.
+        literal: bool,
+    },
+    /// The client's address, at whichever port.
+    Client,
+    /// The node's address and port.
+    Node,
+    Opcode,
+    /// The error of the reply.
+    Error,
+}
+
+impl SummaryBy {
+    /// What the words were matched to, if they name something, and literals count only where statements do.
+    fn matched(matches: &ArgMatches<'_>) -> Result<SummaryBy, BadValue> {
+        let literal = flag(matches, "literal");
+        let word = by_word(matches);
+        if word == "statement" {
+            return Ok(SummaryBy::Statement { literal });
+        }
+        let by = attribute_named(word).ok_or(BadValue::By)?;
+        if literal {
+            return Err(BadValue::Literal);
+        }
+        Ok(by)
+    }
+}
+
+/// The word that says what the requests of a summary are counted by.
+fn by_word<'a>(matches: &ArgMatches<'a>) -> &'a str {
+    match path(matches, "by") {
+        Some(word) => word,
+        None => "statement",
+    }
+}
+
+/// What has this name beside statements.
+fn attribute_named(word: &str) -> Option<SummaryBy> {
+    match word {
+        "client" => Some(SummaryBy::Client),
+        "node" => Some(SummaryBy::Node),
+        "opcode" => Some(SummaryBy::Opcode),
+        "error" => Some(SummaryBy::Error),
+        _ => None,
     }
 }
 
@@ -109,6 +157,7 @@ impl<'a> ExchangeOptions<'a> {
         let node = end(matches, "node").or(Err(BadValue::Node))?;
         let since = time(matches, "from").or(Err(BadValue::From))?;
         let until = time(matches, "to").or(Err(BadValue::To))?;
+        let form = ExchangesAs::matched(matches)?;
         Ok(ExchangeOptions {
             slow: number(matches, "slow"),
             errors: flag(matches, "errors"),
@@ -119,7 +168,7 @@ impl<'a> ExchangeOptions<'a> {
             until,
             statement: path(matches, "statement"),
             connection: long_number(matches, "connection"),
-            form: ExchangesAs::matched(matches),
+            form,
         })
     }
 }

@@ -13,7 +13,9 @@ mod program;
 mod reported;
 mod time;
 
-pub use capture::{CaptureOptions, CaptureTask, ExchangeOptions, ExchangesAs, MOST_PORTS, Ports};
+pub use capture::{
+    CaptureOptions, CaptureTask, ExchangeOptions, ExchangesAs, MOST_PORTS, Ports, SummaryBy,
+};
 pub use command_line::{CommandLine, QUERIES};
 pub use end::AskedEnd;
 pub use limits::CaptureLimits;

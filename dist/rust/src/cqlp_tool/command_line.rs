@@ -9,7 +9,8 @@ use crate::cqlp_tool::marks::MARK;
 use crate::cqlp_tool::progress::Progress;
 use crate::cqlp_capture_events::write_events;
 use crate::cqlp_capture_exchanges::{
-    EndFilter, ExchangeFilter, ExchangeForm, Naming, StatementPart, write_exchanges,
+    Attribute, EndFilter, ExchangeFilter, ExchangeForm, Naming, StatementPart, SummaryBy,
+    write_exchanges,
 };
 use crate::cqlp_capture_rows::write_rows;
 use crate::cqlp_capture_streams::{Buffering, StreamsLimits, write_streams};
@@ -17,7 +18,7 @@ use crate::cqlp_decode::SinkFault;
 use crate::cqlp_note::{OfStd, Source, Target};
 use crate::cqlp_options::{
     AskedEnd, AtRefusal, CaptureOptions, CaptureTask, CommandLine, DEFAULT_LIMITS, EventsAs,
-    ExchangeOptions, ExchangesAs, NoTask, Options, RowsAs, Task,
+    ExchangeOptions, ExchangesAs, NoTask, Options, RowsAs, SummaryBy as AskedBy, Task,
 };
 use crate::cqlp_render::{TextForm, check, conclude, show, show_as};
 use crate::cqlp_render_skip::{check_skipping, show_skipping};
@@ -261,8 +262,18 @@ fn form_of(asked: ExchangesAs) -> ExchangeForm {
     match asked {
         ExchangesAs::Lines => ExchangeForm::Lines,
         ExchangesAs::Json => ExchangeForm::Json,
-        ExchangesAs::Summary { literal: false } => ExchangeForm::Summary(Naming::Fingerprint),
-        ExchangesAs::Summary { literal: true } => ExchangeForm::Summary(Naming::Literal),
+        ExchangesAs::Summary(by) => ExchangeForm::Summary(summary_by(by)),
+    }
+}
+
+fn summary_by(asked: AskedBy) -> SummaryBy {
+    match asked {
+        AskedBy::Statement { literal: false } => SummaryBy::Statement(Naming::Fingerprint),
+        AskedBy::Statement { literal: true } => SummaryBy::Statement(Naming::Literal),
+        AskedBy::Client => SummaryBy::Attribute(Attribute::Client),
+        AskedBy::Node => SummaryBy::Attribute(Attribute::Node),
+        AskedBy::Opcode => SummaryBy::Attribute(Attribute::Opcode),
+        AskedBy::Error => SummaryBy::Attribute(Attribute::Error),
     }
 }
 

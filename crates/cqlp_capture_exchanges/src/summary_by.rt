@@ -1,0 +1,51 @@
+//! What the requests of a summary are counted by.
+
+ghost use Rattle.std.specs.Prelude.{◌≡◌};
+ghost use Rattle.cqlp_capture_exchanges.specs.Forms.{attribute_heading, heading_of};
+
+use crate::naming::Naming;
+
+/// What the requests of a summary are counted by.
+#[derive(Clone, Copy, Debug, PartialEq, Eq)]
+pub enum SummaryBy {
+    /// Their statements.
+    Statement(Naming),
+    /// Another attribute.
+    Attribute(Attribute),
+}
+
+/// An attribute of a request beside its statement.
+#[derive(Clone, Copy, Debug, PartialEq, Eq)]
+pub enum Attribute {
+    /// The client's address, at whichever port.
+    Client,
+    /// The node's address and port.
+    Node,
+    /// The opcode.
+    Opcode,
+    /// The error of the reply.
+    Error,
+}
+
+impl SummaryBy {
+    /// What is above the names in the summary.
+    pub(crate) fn heading(self) -> &'static str
+        ensures { result.now ≡ heading_of self }
+    {
+        match self {
+            SummaryBy::Statement(_) => "statement",
+            SummaryBy::Attribute(attribute) => attribute_heading(attribute),
+        }
+    }
+}
+
+fn attribute_heading(attribute: Attribute) -> &'static str
+    ensures { result.now ≡ attribute_heading attribute }
+{
+    match attribute {
+        Attribute::Client => "client",
+        Attribute::Node => "node",
+        Attribute::Opcode => "opcode",
+        Attribute::Error => "error",
+    }
+}
