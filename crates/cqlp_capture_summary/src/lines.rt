@@ -19,7 +19,8 @@ use cqlp_text::{Pen, TextWriter};
 const HEADER: &str =
     "     %    time_ms    count errors unanswered      rows       bytes   p50_ms   p95_ms   p99_ms    max_ms ";
 
-/// Takes the line above the columns, whose last has this heading, a line for each of the statements that are distinguished, and one for all others if there are any.
+/// Takes the line above the columns, whose last has this heading, a line for each of the names that are distinguished, and one for all others if
+/// there are any.
 pub(crate) fn put_summary<P: Pen>(
     writer: &mut TextWriter<P>,
     heading: &str,
