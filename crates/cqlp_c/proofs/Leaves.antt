@@ -1,16 +1,17 @@
 -- Leaves and nulls that C passes, with no value around them.
-use Rattle.std.proofs.Common.{◌≡◌, ℕ, ◌≤◌, Bool, false, nat_lt, if◌then◌else◌, List, length, take, refl, sym, ap, ◌∙◌, Ok, Err, Option, Some, arith, subst}
+use Rattle.std.proofs.Common.{◌≡◌, ℕ, ◌<◌, ◌≤◌, Bool, true, false, nat_lt, if◌then◌else◌, List, length, take, refl, sym, ap, ◌∙◌, Result, Ok, Err, Option, Some, None, arith, subst, lt-ltb}
 use Rattle.std.specs.Prelude.{◌==◌, option_map}
 use Rattle.cqlp_note.specs.Heading.{beside_number}
 use Rattle.cqlp_kind.specs.declared.kind.Kind.{Kind}
 use Rattle.cqlp_kind.specs.CellStep as cell
 use Rattle.cqlp_kind.specs.Scalars.{ScalarValue}
-use Rattle.cqlp_grammar.specs.Events.{Cell_at}
+use Rattle.cqlp_grammar.specs.Events.{Event, Cell_at}
 use Rattle.cqlp_c.specs.declared.event.CqlpEvent.{CqlpEvent}
 use Rattle.cqlp_c.specs.declared.numbers.TheConstants as numbers
+use Rattle.cqlp_c.specs.declared.from_c.BadEvent.{BadEvent}
 use Rattle.cqlp_c.specs.declared.from_c.BadEvent.TheVariants as bad_event
 use Rattle.cqlp_c.specs.Numbers.{kinds}
-use Rattle.cqlp_c.specs.FromC.{IsLeaf, IsNull, content_len, event_from_c, event_with, found_leaf, is_event}
+use Rattle.cqlp_c.specs.FromC.{IsLeaf, IsNoLeaf, IsNull, content_len, event_from_c, event_with, found_leaf, is_event}
 use Rattle.cqlp_c.specs.CellFromC.{kind_in, leaf_from_c, scalar_from_c}
 use Rattle.cqlp_c.proofs.Conforming.{kind_conforms}
 use Rattle.cqlp_c.proofs.Written.{lt_false}
@@ -33,6 +34,28 @@ leaf_read c k v contents l enough is =
     ap (λ (b : Bool). if b then Err bad_event.Unbuilt else (if nat_lt (length contents) (content_len c) then Err bad_event.NoEvent else is_event (event_with c (take (content_len c) contents)))) no_part
     ∙ ap (λ (b : Bool). if b then Err bad_event.NoEvent else is_event (event_with c (take (content_len c) contents))) long
     ∙ ap is_event (leaf_event c k v (take (content_len c) contents) l is)
+
+-- where it has fewer bytes than its length
+read_as : (c : CqlpEvent) (contents : List ℕ) (b : Bool) → c.tag ≡ numbers.TAG_LEAF → nat_lt (length contents) (content_len c) ≡ b
+    → event_from_c c contents ≡ (if b then Err bad_event.NoEvent else is_event (event_with c (take (content_len c) contents)))
+read_as c contents b tag long =
+    ap (λ (p : Bool). if p then Err bad_event.Unbuilt else (if nat_lt (length contents) (content_len c) then Err bad_event.NoEvent else is_event (event_with c (take (content_len c) contents)))) (ap (λ (n : ℕ). n == numbers.TAG_PART) tag)
+    ∙ ap (λ (p : Bool). if p then Err bad_event.NoEvent else is_event (event_with c (take (content_len c) contents))) long
+
+is_none : (c : CqlpEvent) (v : ScalarValue) (r : Result Event BadEvent) → r ≡ Err bad_event.NoEvent → r ≡ found_leaf c v → ⊥
+is_none c v r none some = let e : Err bad_event.NoEvent ≡ found_leaf c v = sym none ∙ some in absurd cc
+
+pub short_leaf : (c : CqlpEvent) (k : Kind) (contents : List ℕ) → length contents < content_len c → IsNoLeaf c k contents
+short_leaf c k contents short v l some = is_none c v (event_from_c c contents) (read_as c contents true l.0 (lt-ltb _ _ short)) some
+
+-- where its content is that of no scalar
+pub no_leaf : (c : CqlpEvent) (k : Kind) (contents : List ℕ) → content_len c ≤ length contents → None ≡ scalar_from_c k c (take (content_len c) contents) → IsNoLeaf c k contents
+no_leaf c k contents enough is v l some =
+    let content = take (content_len c) contents in
+    let none : event_with c content ≡ None =
+    as_leaf c content l.0 ∙ ap (λ (n : ℕ). leaf_from_c c (beside_number n kinds) content) l.1 ∙ ap (λ (o : Option Kind). leaf_from_c c o content) (kind_conforms k)
+    ∙ ap (option_map (λ (w : ScalarValue). Cell_at c.row c.column (cell.Leaf c.level w))) (sym is) in
+    is_none c v (event_from_c c contents) (read_as c contents false l.0 (lt_false (length contents) (content_len c) enough) ∙ ap is_event none) some
 
 -- ---- nulls
 

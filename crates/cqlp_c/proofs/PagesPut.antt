@@ -2,7 +2,7 @@
 use Rattle.std.proofs.Common.{◌≡◌, ℕ, suc, ◌+◌, ◌-◌, ◌<◌, ◌≤◌, ◌++◌, inl, inr, Bool, true, false, List, [], ◌∷◌, length, drop, take, get_or, Option, Some, None, Result, Ok, Err, refl, sym, ap, ◌∙◌, subst, arith, append_assoc}
 use Rattle.std.proofs.Math.ListN.{drop_of_length-le}
 use Rattle.std.proofs.Math.Seq.{drop-append_seam, drop-cons, take-append_seam}
-use Rattle.std.specs.Prelude.{◌==◌, ◌^◌, IfSome, if◌then◌else◌}
+use Rattle.std.specs.Prelude.{◌==◌, ◌^◌, IfNone, IfSome, if◌then◌else◌}
 use Rattle.std.specs.Borrow.{Bor}
 use Rattle.std.proofs.lemmas.Bool.{eq-eqb, eqb-true}
 use Rattle.std.proofs.lemmas.List.{append-nil, drop-drop, length-append, length-drop, take-append-drop, take_all}
@@ -13,11 +13,13 @@ use Rattle.cqlp_c.specs.declared.page.Unbegun.TheVariants as unbegun
 use Rattle.cqlp_kind.specs.declared.kind.Kind.{Kind}
 use Rattle.cqlp_kind.specs.CellStep.{Leaf, Null}
 use Rattle.cqlp_kind.specs.Scalars.{ScalarValue}
+use Rattle.cqlp_kind.specs.Types.{has_no_items}
 use Rattle.cqlp_grammar.specs.Events.{Event, Cell_at}
 use Rattle.cqlp_build_cells.specs.Building.{ends_cell}
 use Rattle.cqlp_compose.specs.declared.put.PutCells.{PutCells}
 use Rattle.cqlp_compose.specs.Put.{GoesOn, PutterState, Puts, within}
-use Rattle.cqlp_compose.specs.Single.{IsNextKind, PutsNull, PutsScalar}
+use Rattle.cqlp_compose.specs.Single.{IsNextKind, IsNextScalar, IsNoNextScalar, IsRefused, PutsNull, PutsScalar}
+use Rattle.cqlp_compose.proofs.Refusals.{one_kind}
 use Rattle.cqlp_compose.specs.Measures.{event_size}
 use Rattle.cqlp_c.specs.declared.event.CqlpEvent.{CqlpEvent}
 use Rattle.cqlp_c.specs.declared.page.CqlpPut.{CqlpPut}
@@ -27,8 +29,8 @@ use Rattle.cqlp_compose.specs.declared.error.PutError.TheVariants as put_error
 use Rattle.cqlp_c.specs.declared.from_c.BadEvent.{BadEvent}
 use Rattle.cqlp_compose.specs.declared.page.OpenPage.{OpenPage}
 use Rattle.cqlp_c.specs.declared.encode.CqlpEncoded.{CqlpEncoded}
-use Rattle.cqlp_c.specs.Pages.{Begins, BeginsAnew, BatchState, PutsAll, PutsFrom, PutsLeaf, PutsOne, after_event, at_begin, gone_on, measured, nothing_put, sized_on, sum_of, written_of, with_all_used}
-use Rattle.cqlp_c.specs.FromC.{IsNull, content_len, event_from_c, found_leaf}
+use Rattle.cqlp_c.specs.Pages.{Begins, BeginsAnew, BatchState, PutsAll, PutsFrom, PutsLeaf, PutsOne, RefusesLeaf, RefusesNull, after_event, at_begin, gone_on, measured, nothing_put, sized_on, sum_of, written_of, with_all_used}
+use Rattle.cqlp_c.specs.FromC.{IsLeaf, IsNoLeaf, IsNull, content_len, event_from_c, found_leaf}
 use Rattle.cqlp_c.proofs.Leaves.{null_len, null_read}
 
 -- ---- sizes
@@ -261,6 +263,49 @@ pub null_put : (old new : PutCells) (c : CqlpEvent) (contents : Bor (List ℕ)) 
 null_put old new c contents before after k len next null p =
     let rest : contents.now ≡ drop (content_len c) contents.now = ap (λ (n : ℕ). drop n contents.now) (sym (null_len c null)) in
     (p.0, (Cell_at c.row c.column (Null 0), null_read c contents.now null, p.1 c.row c.column k next, rest), p.2)
+
+-- ---- why none is put
+
+scalar_in : ScalarValue → Result Event BadEvent → ScalarValue
+scalar_in d (Ok (Cell_at row column (Leaf level v))) = v
+scalar_in d r = d
+
+module _ (old : PutCells) (c : CqlpEvent) (contents before : List ℕ) where
+  pub none_next_leaf : IsNoNextScalar old c.row c.column → RefusesLeaf old c contents before
+  none_next_leaf none j w n l is = absurd (none j n)
+
+  pub none_next_null : IsNoNextScalar old c.row c.column → RefusesNull old c before
+  none_next_null none j n is = absurd (none j n)
+
+  pub null_unput : (new : PutCells) (after : List ℕ) → PutsNull old before None new after → RefusesNull old c before
+  null_unput new after p j n is = p.2
+
+  pub leaf_no_null : (r : Option (ℕ × Bor (List ℕ))) → c.tag ≡ numbers.TAG_LEAF → IfNone r (RefusesNull old c before)
+  leaf_no_null None leaf = λ j n is. absurd (omega (arith, sym leaf ∙ is.0))
+  leaf_no_null (Some found) leaf = tt
+
+  pub null_no_leaf : (r : Option (ℕ × Bor (List ℕ))) → IsNull c → IfNone r (RefusesLeaf old c contents before)
+  null_no_leaf None null = λ j w n l is. absurd (omega (arith, sym l.0 ∙ null.0))
+  null_no_leaf (Some found) null = tt
+
+  pub no_leaf_tag : (c.tag ≡ numbers.TAG_LEAF → ⊥) → RefusesLeaf old c contents before
+  no_leaf_tag none j w n l is = absurd (none l.0)
+
+  module _ (k : Kind) (next : IsNextKind old c.row c.column k) where
+    kind_is : (j : Kind) → IsNextScalar old c.row c.column j → j ≡ k
+    kind_is j n = one_kind _ j k n.0.4 next.4
+
+    pub unread_leaf : IsNoLeaf c k contents → RefusesLeaf old c contents before
+    unread_leaf none j w n l is = absurd (none w (subst (λ (i : Kind). IsLeaf c i) (kind_is j n) l) is)
+
+    pub leaf_of_items : has_no_items k ≡ false → RefusesLeaf old c contents before
+    leaf_of_items items j w n l is = let e : true ≡ false = sym n.1 ∙ ap has_no_items (kind_is j n) ∙ items in absurd cc
+
+    pub leaf_unput : (v : ScalarValue) (new : PutCells) (after : List ℕ) → event_from_c c contents ≡ found_leaf c v → PutsScalar old k v before None new after → RefusesLeaf old c contents before
+    unfolding scalar_in
+    leaf_unput v new after read p j w n l is =
+        let same : v ≡ w = ap (scalar_in v) (sym read ∙ is) in
+        subst (λ (i : Kind). IsRefused old i w before) (sym (kind_is j n)) (subst (λ (x : ScalarValue). IsRefused old k x before) same p.2)
 
 -- where none is put, nothing has changed before the event is taken as any
 pub any_put : (old mid new : PutterState) (c : CqlpEvent) (contents before room after : List ℕ) (r : Result (Option ℕ × List ℕ) Unput) → mid ≡ old → room ≡ before

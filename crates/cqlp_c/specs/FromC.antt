@@ -123,3 +123,7 @@ IsLeaf c k = (c.tag ≡ numbers.TAG_LEAF) × (c.kind ≡ number_of_kind k) × (c
 -- What C passes is a null with no value around it.
 abbrev pub IsNull : CqlpEvent → Type 0
 IsNull c = (c.tag ≡ numbers.TAG_NULL) × (c.level ≡ 0)
+
+-- It is no such leaf, or its content is that of no scalar of this kind.
+abbrev pub IsNoLeaf : CqlpEvent → Kind → (contents : List ℕ) → Type 0
+IsNoLeaf c k contents = (v : ScalarValue) → IsLeaf c k → event_from_c c contents ≡ found_leaf c v → ⊥

@@ -5,6 +5,8 @@ use Rattle.std.specs.Borrow.{Bor}
 use Rattle.cqlp_note.specs.declared.field.Field.TheVariants as field
 use Rattle.cqlp_note.specs.declared.header.TheConstants.Header.{LONGEST_BODY}
 use Rattle.cqlp_note.specs.Field.{Count}
+use Rattle.cqlp_kind.specs.declared.kind.Kind.{Kind}
+use Rattle.cqlp_kind.specs.Scalars.{ScalarValue}
 use Rattle.cqlp_grammar.specs.Events.{Event, Holds}
 use Rattle.cqlp_message.specs.Owned.{frame_of}
 use Rattle.cqlp_message.specs.declared.unfit.Unfit.{Unfit}
@@ -28,6 +30,7 @@ use Rattle.cqlp_compose.specs.Begun as page
 use Rattle.cqlp_compose.specs.declared.put.PutCells.{PutCells}
 use Rattle.cqlp_compose.specs.Put.{PutterState, fresh_putter, putter}
 use Rattle.cqlp_compose.specs.Put as cells
+use Rattle.cqlp_compose.specs.Single.{HasNoSpace, IsNextScalar, IsRefused, null_bytes}
 use Rattle.cqlp_c.specs.declared.encode.CqlpEncoded.{CqlpEncoded}
 use Rattle.cqlp_c.specs.declared.encode.Unencoded.{Unencoded}
 use Rattle.cqlp_c.specs.declared.encode.Unencoded.TheVariants as unencoded
@@ -43,7 +46,7 @@ use Rattle.cqlp_c.specs.declared.page.Unput.TheVariants as unput
 use Rattle.cqlp_c.specs.declared.page.BadEventAt.{BadEventAt}
 use Rattle.cqlp_c.specs.declared.from_c.BadEvent.{BadEvent}
 use Rattle.cqlp_c.specs.Encoding.{StopsAt, Taken, after_all, code_of_refused, code_of_unencoded, code_of_bad_event, longest}
-use Rattle.cqlp_c.specs.FromC.{content_len, event_from_c}
+use Rattle.cqlp_c.specs.FromC.{IsLeaf, IsNull, content_len, event_from_c, found_leaf}
 
 -- ---- measure
 
@@ -177,6 +180,15 @@ PutsLeaf old c contents before (Some found) new after =
     (bytes : List ℕ) × PutsOne (putter old) c contents (length before) (Ok (Some found.0, found.1.now)) bytes (putter new)
     × (after ≡ bytes ++ drop (length bytes) before)
 PutsLeaf old c contents before None new after = (putter new ≡ putter old) × (after ≡ before)
+
+-- Where the event is a leaf of the next cell, which has a kind without items, its scalar is refused for one of the reasons of `IsRefused`.
+abbrev pub RefusesLeaf : PutCells → CqlpEvent → (contents before : List ℕ) → Type 0
+RefusesLeaf old c contents before =
+    (k : Kind) (v : ScalarValue) → IsNextScalar old c.row c.column k → IsLeaf c k → event_from_c c contents ≡ found_leaf c v → IsRefused old k v before
+
+-- Where it is a null of the next cell, of such a kind, there is no space for one.
+abbrev pub RefusesNull : PutCells → CqlpEvent → (before : List ℕ) → Type 0
+RefusesNull old c before = (k : Kind) → IsNextScalar old c.row c.column k → IsNull c → HasNoSpace old before (length null_bytes)
 
 -- what is written after an event with which a cell of this many bytes ends, or none
 abbrev pub gone_on : CqlpPut → (event used : ℕ) → Option ℕ → CqlpPut

@@ -1,6 +1,6 @@
 //! Events that C passes.
 
-ghost use Rattle.std.specs.Prelude.{◌≡◌, IfOk, IfSome, IsTrue, drop, option_map};
+ghost use Rattle.std.specs.Prelude.{◌≡◌, ◌↔◌, IfNone, IfOk, IfSome, IsTrue, drop, option_map};
 ghost use Rattle.cqlp_kind.specs.Contents.{value_of};
 ghost use Rattle.cqlp_grammar.specs.Events.{Holds, event_of};
 ghost use Rattle.cqlp_c.specs.FromC as model;
@@ -45,7 +45,7 @@ pub fn event_from_c<'a>(
 
 /// The scalar of what C passes as a leaf of this kind with no value around it, whose content is the first of the contents, and the contents after it;
 /// None where it is no such leaf.
-#[tactic(auto, using(crate::proofs::Leaves::leaf_read))]
+#[tactic(auto, using(crate::proofs::Leaves::leaf_read, crate::proofs::Leaves::no_leaf, crate::proofs::Leaves::short_leaf))]
 #[inline(always)]
 pub fn leaf_from_c<'a>(
     c_event: &CqlpEvent,
@@ -54,6 +54,7 @@ pub fn leaf_from_c<'a>(
 ) -> Option<(Scalar<'a>, &'a [u8])>
     ensures leaf { IfSome result (λ found. model.event_from_c c_event.now contents.now ≡ model.found_leaf c_event.now (value_of found.0)) }
     ensures rest { IfSome result (λ found. found.1.now ≡ drop (model.content_len c_event.now) contents.now) }
+    ensures none { IfNone result (model.IsNoLeaf c_event.now kind contents.now) }
 {
     if !is_leaf(c_event, kind) {
         return None;
@@ -72,7 +73,7 @@ pub fn leaf_from_c<'a>(
 /// Whether C passes a leaf of this kind with no value around it.
 #[inline(always)]
 fn is_leaf(c_event: &CqlpEvent, kind: Kind) -> bool
-    ensures { IsTrue result → model.IsLeaf c_event.now kind }
+    ensures { IsTrue result ↔ model.IsLeaf c_event.now kind }
 {
     c_event.tag == TAG_LEAF && c_event.kind == kind_number(kind) && c_event.level == 0
 }
@@ -80,7 +81,7 @@ fn is_leaf(c_event: &CqlpEvent, kind: Kind) -> bool
 /// Whether C passes a null with no value around it.
 #[inline(always)]
 pub fn is_null(c_event: &CqlpEvent) -> bool
-    ensures { IsTrue result → model.IsNull c_event.now }
+    ensures { IsTrue result ↔ model.IsNull c_event.now }
 {
     c_event.tag == TAG_NULL && c_event.level == 0
 }

@@ -15,6 +15,7 @@ ghost use Rattle.cqlp_c.specs.FromC.{IsNull};
 ghost use Rattle.cqlp_c.specs.Handle.{flag_of, owned_in};
 ghost use Rattle.cqlp_c.specs.Pages as model;
 ghost use Rattle.cqlp_c.specs.Pages.{Begins, BeginsAnew, IsPutBy, Measures, Opens, Puts, PutsAll, PutsCells, PutsLeaf, PutsOne, ReadsHead};
+ghost use Rattle.cqlp_c.specs.Pages.{RefusesLeaf, RefusesNull};
 
 use crate::batch::or_none;
 use crate::encode::{
@@ -418,7 +419,8 @@ fn put_from_c<'a>(
 }
 
 /// Puts the next cell, if this event is a leaf or a null, and all of the cell. It answers how many bytes the cell has, and the contents after its own.
-/// Where it puts nothing, nothing changes: [`put_any`] then finds out why.
+/// Where it is no such event of the next cell, or the cell is refused, nothing changes: [`put_any`] then finds out why.
+#[tactic(auto, using(crate::proofs::PagesPut::leaf_no_null, crate::proofs::PagesPut::null_no_leaf, crate::proofs::PagesPut::no_leaf_tag))]
 #[inline(always)]
 fn put_whole<'a>(
     cells: &mut PutCells<'_>,
@@ -426,7 +428,9 @@ fn put_whole<'a>(
     contents: &'a [u8],
     room: &mut [u8],
 ) -> Option<(usize, &'a [u8])>
-    ensures { PutsLeaf cells.old c_event.now contents.now room.old result cells.new room.new }
+    ensures puts { PutsLeaf cells.old c_event.now contents.now room.old result cells.new room.new }
+    ensures leaf { IfNone result (RefusesLeaf cells.old c_event.now contents.now room.old) }
+    ensures null { IfNone result (RefusesNull cells.old c_event.now room.old) }
 {
     if c_event.tag == TAG_LEAF {
         put_leaf(cells, c_event, contents, room)
@@ -438,6 +442,7 @@ fn put_whole<'a>(
 }
 
 /// The same of a null.
+#[tactic(auto, using(crate::proofs::PagesPut::none_next_null, crate::proofs::PagesPut::null_unput))]
 #[inline(always)]
 fn put_null<'a>(
     cells: &mut PutCells<'_>,
@@ -446,7 +451,8 @@ fn put_null<'a>(
     room: &mut [u8],
 ) -> Option<(usize, &'a [u8])>
     requires { IsNull c_event.now }
-    ensures { PutsLeaf cells.old c_event.now contents.now room.old result cells.new room.new }
+    ensures puts { PutsLeaf cells.old c_event.now contents.now room.old result cells.new room.new }
+    ensures null { IfNone result (RefusesNull cells.old c_event.now room.old) }
 {
     match cells.next_kind(c_event.row, c_event.column) {
         Some(_kind) => match cells.put_null(room) {
@@ -458,6 +464,7 @@ fn put_null<'a>(
 }
 
 /// The same of a leaf.
+#[tactic(auto, using(crate::proofs::PagesPut::none_next_leaf))]
 #[inline(always)]
 fn put_leaf<'a>(
     cells: &mut PutCells<'_>,
@@ -465,7 +472,8 @@ fn put_leaf<'a>(
     contents: &'a [u8],
     room: &mut [u8],
 ) -> Option<(usize, &'a [u8])>
-    ensures { PutsLeaf cells.old c_event.now contents.now room.old result cells.new room.new }
+    ensures puts { PutsLeaf cells.old c_event.now contents.now room.old result cells.new room.new }
+    ensures leaf { IfNone result (RefusesLeaf cells.old c_event.now contents.now room.old) }
 {
     match cells.next_kind(c_event.row, c_event.column) {
         Some(kind) => put_by_kind(cells, kind, c_event, contents, room),
@@ -474,6 +482,7 @@ fn put_leaf<'a>(
 }
 
 /// The same, where the next cell is of this kind. The compiler makes code of its own for each arm, which looks at what cells of that kind have.
+#[tactic(auto, using(crate::proofs::PagesPut::leaf_of_items))]
 #[inline(always)]
 fn put_by_kind<'a>(
     cells: &mut PutCells<'_>,
@@ -483,7 +492,8 @@ fn put_by_kind<'a>(
     room: &mut [u8],
 ) -> Option<(usize, &'a [u8])>
     requires { IsNextKind cells.old c_event.now.row c_event.now.column kind }
-    ensures { PutsLeaf cells.old c_event.now contents.now room.old result cells.new room.new }
+    ensures puts { PutsLeaf cells.old c_event.now contents.now room.old result cells.new room.new }
+    ensures leaf { IfNone result (RefusesLeaf cells.old c_event.now contents.now room.old) }
 {
     match kind {
         Kind::Int => put_as(cells, Kind::Int, c_event, contents, room),
@@ -512,6 +522,7 @@ fn put_by_kind<'a>(
 }
 
 /// The same, as one function for all kinds.
+#[tactic(auto, using(crate::proofs::PagesPut::unread_leaf, crate::proofs::PagesPut::leaf_unput))]
 #[inline(always)]
 fn put_as<'a>(
     cells: &mut PutCells<'_>,
@@ -521,7 +532,8 @@ fn put_as<'a>(
     room: &mut [u8],
 ) -> Option<(usize, &'a [u8])>
     requires { IsNextKind cells.old c_event.now.row c_event.now.column kind }
-    ensures { PutsLeaf cells.old c_event.now contents.now room.old result cells.new room.new }
+    ensures puts { PutsLeaf cells.old c_event.now contents.now room.old result cells.new room.new }
+    ensures leaf { IfNone result (RefusesLeaf cells.old c_event.now contents.now room.old) }
 {
     match leaf_from_c(c_event, kind, contents) {
         Some((scalar, rest)) => match cells.put_scalar(&scalar, kind, room) {

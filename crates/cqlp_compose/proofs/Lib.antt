@@ -20,3 +20,4 @@ pub mod Allowed
 pub mod Lent
 pub mod OneEvent
 pub mod WholeCells
+pub mod Refusals

@@ -1,9 +1,10 @@
 -- Cells that have one event (section 6 of native_protocol_v4.spec).
-use Rattle.std.specs.Prelude.{◌≡◌, ℕ, ◌+◌, ◌-◌, ◌<◌, ◌≤◌, ◌^◌, ◌++◌, true, false, List, [], ◌∷◌, drop, length, Option, Some, None, Result, Ok, Err}
+use Rattle.std.specs.Prelude.{◌≡◌, ◌⊎◌, ℕ, ◌+◌, ◌-◌, ◌<◌, ◌≤◌, ◌^◌, ◌++◌, min, true, false, List, [], ◌∷◌, drop, length, Option, Some, None, Result, Ok, Err}
 use Rattle.std.specs.Int.{w32, to_be_bytes}
+use Rattle.cqlp_note.specs.declared.header.TheConstants.Header.{LONGEST_BODY}
 use Rattle.cqlp_kind.specs.declared.kind.Kind.{Kind}
 use Rattle.cqlp_kind.specs.Scalars.{ScalarValue, IsInRange, content_of, kind_of, scalar_fits}
-use Rattle.cqlp_kind.specs.Types.{NoMore, Type_and}
+use Rattle.cqlp_kind.specs.Types.{NoMore, Type_and, has_no_items}
 use Rattle.cqlp_kind.specs.CellStep.{CellEvent, Leaf, Null, Empty, Enter, Leave, Part}
 use Rattle.cqlp_type.specs.declared.tree.TypeTree.{TypeTree}
 use Rattle.cqlp_grammar.specs.Events.{Event, Cell_at}
@@ -37,6 +38,33 @@ cell_bytes (cell.Of c) = with_length (content_in c)
 abbrev pub IsPlain : Option TypeTree → Kind → Type 0
 IsPlain t k = (cell_type t ≡ Type_and k NoMore NoMore) × (is_formed t ≡ true)
 
+-- The same, of a kind whose values have no items: no tuple and no user-defined type without fields.
+abbrev pub IsScalarType : Option TypeTree → Kind → Type 0
+IsScalarType t k = IsPlain t k × (has_no_items k ≡ true)
+
+abbrev pub IsNoScalarType : Option TypeTree → Type 0
+IsNoScalarType t = (k : Kind) → IsScalarType t k → ⊥
+
+-- ---- why a scalar is refused
+
+-- The scalar is of another kind.
+abbrev pub IsOfOtherKind : Kind → ScalarValue → Type 0
+IsOfOtherKind k v = kind_of v ≡ k → ⊥
+
+-- Its content is none of its kind, as bytes that are no ASCII in an ascii.
+abbrev pub IsUnfit : ScalarValue → Type 0
+IsUnfit v = scalar_fits v ≡ false
+
+-- Its content has more bytes than this limit.
+abbrev pub PassesLimit : (most : ℕ) → ScalarValue → Type 0
+PassesLimit most v = most < length (content_of v)
+
+-- no cell of this kind holds it within this limit
+abbrev pub HasNoCell : (most : ℕ) → Kind → ScalarValue → Type 0
+HasNoCell most k v = (IsOfOtherKind k v ⊎ IsUnfit v) ⊎ PassesLimit most v
+
+-- ---- cells of one event
+
 -- The bytes are those of a cell of this kind that holds this scalar, whose content has at most so many bytes.
 abbrev pub IsScalarCell : (most : ℕ) → Kind → ScalarValue → (bytes : List ℕ) → Type 0
 IsScalarCell most k v bytes =
@@ -53,6 +81,14 @@ IsCellOfKind most k e bytes = ⊥
 abbrev pub IsWholeCell : (most : ℕ) → Option TypeTree → Event → (bytes : List ℕ) → Type 0
 IsWholeCell most t (Cell_at row column e) bytes = (k : Kind) × IsPlain t k × IsCellOfKind most k e bytes
 IsWholeCell most t e bytes = ⊥
+
+abbrev pub IsCellIn : (most : ℕ) → Kind → Event → (bytes : List ℕ) → Type 0
+IsCellIn most k (Cell_at row column e) bytes = IsCellOfKind most k e bytes
+IsCellIn most k e bytes = ⊥
+
+-- The event is not all of a cell of this type within this limit, or values of the type have items.
+abbrev pub IsNoWholeCell : (most : ℕ) → Option TypeTree → Event → Type 0
+IsNoWholeCell most t e = (k : Kind) (bytes : List ℕ) → IsScalarType t k → IsCellIn most k e bytes → ⊥
 
 -- The event is that of the next cell of a page, which has these bytes; and fewer cells have come than can be counted.
 abbrev pub IsNextCell : Frame → PageProgress → CellLimits → Event → (bytes : List ℕ) → Type 0
@@ -81,24 +117,47 @@ IsNextKind c row column k =
     (c.cells ≡ None) × (is_next (begun c.frame.now c.place c.limits) (Cell_at row column (Null 0)) ≡ true) × (0 < c.limits.events)
     × (c.place.cells + 1 < 2 ^ 64) × IsPlain (described_type c.frame.now (next_column (begun c.frame.now c.place c.limits))) k
 
+-- The same, of a kind whose values have no items.
+abbrev pub IsNextScalar : PutCells → (row column : ℕ) → Kind → Type 0
+IsNextScalar c row column k = IsNextKind c row column k × (has_no_items k ≡ true)
+
+-- The next cell is not of this row and this column, or of no such kind; or events of it came, or may not come.
+abbrev pub IsNoNextScalar : PutCells → (row column : ℕ) → Type 0
+IsNoNextScalar c row column = (k : Kind) → IsNextScalar c row column k → ⊥
+
 abbrev pub IsNext : PutCells → Kind → Type 0
 IsNext c k = (row column : ℕ) × IsNextKind c row column k
 
 abbrev pub IsNextPlain : PutCells → Type 0
 IsNextPlain c = (k : Kind) × IsNext c k
 
--- The next cell, whose one event is a leaf with this scalar, is put; or nothing changes.
+-- A cell of n bytes is longer than what the cells of the page can still have.
+abbrev pub PassesPage : PutCells → (n : ℕ) → Type 0
+PassesPage c n = min c.place.free LONGEST_BODY < n
+
+-- It is longer than this room.
+abbrev pub PassesRoom : (room : List ℕ) → (n : ℕ) → Type 0
+PassesRoom room n = length room < n
+
+abbrev pub HasNoSpace : PutCells → (room : List ℕ) → (n : ℕ) → Type 0
+HasNoSpace c room n = PassesPage c n ⊎ PassesRoom room n
+
+-- Why a scalar is not put as the next cell, of this kind, into this room.
+abbrev pub IsRefused : PutCells → Kind → ScalarValue → (room : List ℕ) → Type 0
+IsRefused c k v room = HasNoCell c.limits.bytes k v ⊎ HasNoSpace c room (length (with_length (content_of v)))
+
+-- The next cell, whose one event is a leaf with this scalar, is put; or it is refused for one of these reasons, and nothing changes.
 abbrev pub PutsScalar : PutCells → Kind → ScalarValue → (before : List ℕ) → Option ℕ → PutCells → (after : List ℕ) → Type 0
 PutsScalar old k v before (Some len) new after =
     (bytes : List ℕ)
     × ((row column : ℕ) → IsNextKind old row column k → Puts (putter old) (Cell_at row column (Leaf 0 v)) (length before) (Ok (Some len)) bytes (putter new))
     × (after ≡ bytes ++ drop (length bytes) before)
-PutsScalar old k v before None new after = (putter new ≡ putter old) × (after ≡ before)
+PutsScalar old k v before None new after = (putter new ≡ putter old) × (after ≡ before) × IsRefused old k v before
 
--- The next cell, which is null, is put; or nothing changes.
+-- The next cell, which is null, is put; or there is no space for it, and nothing changes.
 abbrev pub PutsNull : PutCells → (before : List ℕ) → Option ℕ → PutCells → (after : List ℕ) → Type 0
 PutsNull old before (Some len) new after =
     (bytes : List ℕ)
     × ((row column : ℕ) (k : Kind) → IsNextKind old row column k → Puts (putter old) (Cell_at row column (Null 0)) (length before) (Ok (Some len)) bytes (putter new))
     × (after ≡ bytes ++ drop (length bytes) before)
-PutsNull old before None new after = (putter new ≡ putter old) × (after ≡ before)
+PutsNull old before None new after = (putter new ≡ putter old) × (after ≡ before) × HasNoSpace old before (length null_bytes)

@@ -1,13 +1,13 @@
 //! Cells of a page, put into rooms of the caller's.
 
-ghost use Rattle.std.specs.Prelude.{◌≡◌, ◌++◌, ◌+◌, ◌/◌, ◌%◌, ◌<◌, ◌^◌, ℕ, List, IfSome, IsTrue};
+ghost use Rattle.std.specs.Prelude.{◌≡◌, ◌++◌, ◌+◌, ◌/◌, ◌%◌, ◌<◌, ◌^◌, ℕ, List, IfNone, IfSome, IsTrue};
 ghost use Rattle.std.specs.Prelude.{None, drop, false, length, true};
 ghost use Rattle.cqlp_kind.specs.Contents.{value_of};
 ghost use Rattle.cqlp_grammar.specs.Events.{event_of};
 ghost use Rattle.cqlp_compose.specs.Cells.{state};
 ghost use Rattle.cqlp_build_cells.specs.Building.{ends_cell};
 ghost use Rattle.cqlp_compose.specs.Put.{Ended, GoesOn, Puts, fresh_putter, putter, within};
-ghost use Rattle.cqlp_compose.specs.Single.{IsNext, IsNextCell, IsNextKind, IsNextPlain, PutsCell, PutsNull, PutsScalar, cell_bytes};
+ghost use Rattle.cqlp_compose.specs.Single.{IsNext, IsNextCell, IsNextPlain, IsNextScalar, IsNoNextScalar, PutsCell, PutsNull, PutsScalar, cell_bytes};
 
 use crate::cells::PageCells;
 use crate::column::column_type;
@@ -131,11 +131,13 @@ impl<'a> PutCells<'a> {
         Ok(Some(size))
     }
 
-    /// The kind of the next cell, if no event of it came, this is its row and its column, and its type has no inner types; else None.
+    /// The kind of the next cell, if no event of it came, the limits allow one, this is its row and its column, and values of its type have no
+    /// items; else None.
     #[must_use]
     #[inline(always)]
     pub fn next_kind(&self, row: u32, column: u32) -> Option<Kind>
-        ensures { IfSome result (λ kind. IsNextKind self.now row column kind) }
+        ensures some { IfSome result (λ kind. IsNextScalar self.now row column kind) }
+        ensures none { IfNone result (IsNoNextScalar self.now row column) }
     {
         if self.cells.is_some() {
             return None;
@@ -150,7 +152,7 @@ impl<'a> PutCells<'a> {
     }
 
     /// Puts the next cell, which is of this kind and has one event, a leaf with this scalar, and answers how many bytes it has. It is None, and nothing
-    /// changes, where the scalar is of another kind, or has more bytes than the limits, the page or the room.
+    /// changes, exactly where the scalar is of another kind or none of its kind, or passes the limits, the page or the room.
     #[tactic(auto, using(crate::proofs::WholeCells::scalar_short))]
     #[inline(always)]
     pub fn put_scalar(&mut self, scalar: &Scalar<'_>, kind: Kind, room: &mut [u8]) -> Option<usize>
@@ -248,7 +250,8 @@ impl<'a> PutCells<'a> {
 /// Whether this is the row and the column of the cell before which so many have come, of a page of so many columns.
 #[inline]
 fn is_at(cells: u64, columns: u32, row: u32, column: u32) -> bool
-    ensures { IsTrue result → (row ≡ cells / columns) × (column ≡ cells % columns) }
+    ensures is { IsTrue result → (row ≡ cells / columns) × (column ≡ cells % columns) }
+    ensures all { 0 < columns → row ≡ cells / columns → column ≡ cells % columns → IsTrue result }
 {
     column < columns && u64::from(row) * u64::from(columns) + u64::from(column) == cells
 }

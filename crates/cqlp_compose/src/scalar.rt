@@ -1,9 +1,10 @@
 //! The scalars of events: their kinds, and their contents.
 
-ghost use Rattle.std.specs.Prelude.{◌≡◌, IfSome, length, true};
+ghost use Rattle.std.specs.Prelude.{◌≡◌, ◌⊎◌, IfNone, IfSome, length, true};
 ghost use Rattle.cqlp_kind.specs.Contents.{value_of};
 ghost use Rattle.cqlp_kind.specs.Scalars.{IsInRange, content_of, kind_of, scalar_fits};
 ghost use Rattle.cqlp_compose.specs.Contents.{content_in};
+ghost use Rattle.cqlp_compose.specs.Single.{IsOfOtherKind, IsUnfit};
 
 use cqlp_kind::content::DAY;
 use cqlp_kind::{Kind, Scalar};
@@ -121,6 +122,7 @@ pub fn content_as<'a>(scalar: &Scalar<'a>, kind: Kind) -> Option<Content<'a>>
     ensures fits { IfSome result (λ _. (kind_of (value_of scalar.now) ≡ kind) × (scalar_fits (value_of scalar.now) ≡ true)) }
     ensures is { IfSome result (λ content. content_in content ≡ content_of (value_of scalar.now)) }
     ensures range { IfSome result (λ _. IsInRange (value_of scalar.now)) }
+    ensures none { IfNone result (IsOfOtherKind kind (value_of scalar.now) ⊎ IsUnfit (value_of scalar.now)) }
 {
     let content = scalar_content(scalar);
     if scalar_kind(scalar) == kind && is_allowed(scalar) {

@@ -1,10 +1,10 @@
 //! Cells of one event.
 
-ghost use Rattle.std.specs.Prelude.{◌≡◌, ◌+◌, ◌++◌, ◌≤◌, ◌<◌, ◌^◌, IfSome, drop, length, option_map};
+ghost use Rattle.std.specs.Prelude.{◌≡◌, ◌+◌, ◌++◌, ◌≤◌, ◌<◌, ◌^◌, IfNone, IfSome, drop, length, option_map};
 ghost use Rattle.cqlp_grammar.specs.Events.{event_of};
 ghost use Rattle.cqlp_kind.specs.Contents.{value_of};
 ghost use Rattle.cqlp_compose.specs.Contents.{content_in};
-ghost use Rattle.cqlp_compose.specs.Single.{IsPlain, IsScalarCell, IsWholeCell, cell_bytes, with_length};
+ghost use Rattle.cqlp_compose.specs.Single.{HasNoCell, IsNoScalarType, IsNoWholeCell, IsScalarCell, IsScalarType, IsWholeCell, cell_bytes, with_length};
 
 use crate::scalar::{Content, content_as};
 use cqlp_grammar::Event;
@@ -20,10 +20,12 @@ pub enum WholeCell<'a> {
     Of(Content<'a>),
 }
 
-/// The kind of a type without inner types, or of a cell without a type.
+/// The kind of a type without inner types, or of a cell without a type. None of a type whose values have items.
+#[tactic(auto, using(crate::proofs::Refusals::plain_has_none))]
 #[inline(always)]
 pub fn plain_kind(of: Option<&TypeTree>) -> Option<Kind>
-    ensures { IfSome result (λ kind. IsPlain (option_map (λ t. t.now) of.entry) kind) }
+    ensures some { IfSome result (λ kind. IsScalarType (option_map (λ t. t.now) of.entry) kind) }
+    ensures none { IfNone result (IsNoScalarType (option_map (λ t. t.now) of.entry)) }
 {
     match of {
         None => Some(Kind::Raw),
@@ -37,7 +39,8 @@ pub fn plain_kind(of: Option<&TypeTree>) -> Option<Kind>
 /// it has more events or bytes, and where the event is of no value of the type; also of a null or an empty value of a type with inner types.
 #[inline(always)]
 pub fn whole_cell<'a>(event: &Event<'a>, of: Option<&TypeTree>, most: u32) -> Option<WholeCell<'a>>
-    ensures { IfSome result (λ cell. IsWholeCell most (option_map (λ t. t.now) of.entry) (event_of event.now) (cell_bytes cell)) }
+    ensures some { IfSome result (λ cell. IsWholeCell most (option_map (λ t. t.now) of.entry) (event_of event.now) (cell_bytes cell)) }
+    ensures none { IfNone result (IsNoWholeCell most (option_map (λ t. t.now) of.entry) (event_of event.now)) }
 {
     let kind = plain_kind(of)?;
     match event {
@@ -52,10 +55,11 @@ pub fn whole_cell<'a>(event: &Event<'a>, of: Option<&TypeTree>, most: u32) -> Op
     }
 }
 
-/// The cell of this kind that holds this scalar.
+/// The cell of this kind that holds this scalar. None where the scalar is of another kind, its content none of that kind, or longer than `most`.
 #[inline(always)]
 pub fn scalar_cell<'a>(scalar: &Scalar<'a>, kind: Kind, most: u32) -> Option<WholeCell<'a>>
-    ensures { IfSome result (λ cell. IsScalarCell most kind (value_of scalar.now) (cell_bytes cell)) }
+    ensures some { IfSome result (λ cell. IsScalarCell most kind (value_of scalar.now) (cell_bytes cell)) }
+    ensures none { IfNone result (HasNoCell most kind (value_of scalar.now)) }
 {
     let content = content_as(scalar, kind)?;
     if content_len(content) > most as usize {

@@ -106,7 +106,8 @@ impl<'a> PutCells<'a> {
         Ok(Some(size))
     }
 
-    /// The kind of the next cell, if no event of it came, this is its row and its column, and its type has no inner types; else None.
+    /// The kind of the next cell, if no event of it came, the limits allow one, this is its row and its column, and values of its type have no
+    /// items; else None.
     #[must_use]
     #[inline(always)]
     pub fn next_kind(&self, row: u32, column: u32) -> Option<Kind> {
@@ -123,7 +124,7 @@ impl<'a> PutCells<'a> {
     }
 
     /// Puts the next cell, which is of this kind and has one event, a leaf with this scalar, and answers how many bytes it has. It is None, and nothing
-    /// changes, where the scalar is of another kind, or has more bytes than the limits, the page or the room.
+    /// changes, exactly where the scalar is of another kind or none of its kind, or passes the limits, the page or the room.
     #[inline(always)]
     pub(crate) fn put_scalar(&mut self, scalar: &Scalar<'_>, kind: Kind, room: &mut [u8]) -> Option<usize> {
         match scalar_cell(scalar, kind, self.limits.bytes) {

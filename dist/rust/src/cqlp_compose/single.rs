@@ -15,7 +15,7 @@ pub enum WholeCell<'a> {
     Of(Content<'a>),
 }
 
-/// The kind of a type without inner types, or of a cell without a type.
+/// The kind of a type without inner types, or of a cell without a type. None of a type whose values have items.
 #[inline(always)]
 pub fn plain_kind(of: Option<&TypeTree>) -> Option<Kind> {
     match of {
@@ -43,7 +43,7 @@ pub fn whole_cell<'a>(event: &Event<'a>, of: Option<&TypeTree>, most: u32) -> Op
     }
 }
 
-/// The cell of this kind that holds this scalar.
+/// The cell of this kind that holds this scalar. None where the scalar is of another kind, its content none of that kind, or longer than `most`.
 #[inline(always)]
 pub fn scalar_cell<'a>(scalar: &Scalar<'a>, kind: Kind, most: u32) -> Option<WholeCell<'a>> {
     let content = content_as(scalar, kind)?;
