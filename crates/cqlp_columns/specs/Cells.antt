@@ -10,6 +10,8 @@ use Rattle.cqlp_columns.specs.declared.layout.Layout.{Layout}
 use Rattle.cqlp_columns.specs.declared.layout.Layout.TheVariants.{Bits, Fixed, Variable}
 use Rattle.cqlp_columns.specs.declared.cell.Cell as handed_in
 use Rattle.cqlp_columns.specs.declared.cell.Cell.TheVariants as handed
+use Rattle.cqlp_columns.specs.declared.cell.CellRef as lent_in
+use Rattle.cqlp_columns.specs.declared.cell.CellRef.TheVariants as lent
 
 -- a value of a negative length, one of no bytes, or a scalar
 pub data Cell : Type 0 where
@@ -21,6 +23,12 @@ abbrev pub cell_of : handed_in.Cell → Cell
 cell_of handed.Null = Null
 cell_of handed.Empty = Empty
 cell_of (handed.Holds s) = Holds (value_of s)
+
+-- the same of one whose scalar lies elsewhere
+abbrev pub cell_in : lent_in.CellRef → Cell
+cell_in lent.Null = Null
+cell_in lent.Empty = Empty
+cell_in (lent.Holds s) = Holds (value_of s.now)
 
 -- The bytes that represent a scalar: of numbers the lowest first, of which a boolean has none, since a bit represents it; all else as
 -- section 6 of native_protocol_v4.spec spells it.

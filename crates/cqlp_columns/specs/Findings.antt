@@ -7,7 +7,7 @@ use Rattle.cqlp_grammar.specs.Events.{Event}
 use Rattle.cqlp_grammar.specs.Events as reading
 use Rattle.cqlp_columns.specs.declared.found.Found as found
 use Rattle.cqlp_columns.specs.declared.found.Found.TheVariants as is
-use Rattle.cqlp_columns.specs.Cells.{Cell, Null, Empty, Holds, cell_of}
+use Rattle.cqlp_columns.specs.Cells.{Cell, Null, Empty, Holds, cell_in}
 
 -- What an event has of a page's cells: nothing, a part of a cell, or the cell of a column. A part is a value with items, its end, an item, or
 -- bytes of a long content.
@@ -39,7 +39,7 @@ found_in (reading.End n) = Nothing
 abbrev pub finding_of : found.Found → Finding
 finding_of is.Nothing = Nothing
 finding_of is.Part = Part
-finding_of (is.Cell column c) = Whole column (cell_of c)
+finding_of (is.Cell column c) = Whole column (cell_in c)
 
 -- the cell of a column, if it is one
 abbrev pub cells_at : (column : ℕ) → Finding → List Cell

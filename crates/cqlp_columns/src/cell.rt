@@ -3,7 +3,7 @@
 ghost use Rattle.std.specs.Prelude.{◌≡◌, ◌+◌, ◌≤◌, ◌++◌, length, reverse};
 ghost use Rattle.cqlp_kind.specs.Contents.{value_of};
 ghost use Rattle.cqlp_kind.specs.Scalars.{kind_of as kind_of_value};
-ghost use Rattle.cqlp_columns.specs.Cells.{cell_of, is_empty, is_valid, stored, truth};
+ghost use Rattle.cqlp_columns.specs.Cells.{cell_in, cell_of, is_empty, is_valid, stored, truth};
 
 use crate::bytes::Bytes;
 use crate::layout::Layout;
@@ -22,32 +22,55 @@ pub enum Cell<'a> {
     Holds(Scalar<'a>),
 }
 
-/// Whether a cell has a value in this layout: a value of no bytes is one only where as many bytes represent a value as it has.
+/// A cell whose scalar lies elsewhere, so that none is copied.
+#[derive(Clone, Copy)]
+pub(crate) enum CellRef<'a> {
+    /// A value of a negative length.
+    Null,
+    /// A value of no bytes.
+    Empty,
+    /// A value with bytes.
+    Holds(&'a Scalar<'a>),
+}
+
+/// A cell with its scalar where it lies.
 #[inline(always)]
-pub(crate) fn is_valid(layout: Layout, cell: &Cell<'_>) -> bool
-    ensures { result ≡ is_valid layout (cell_of cell.now) }
+pub(crate) fn lend<'a>(cell: &'a Cell<'a>) -> CellRef<'a>
+    ensures { cell_in result ≡ cell_of cell.now }
 {
     match *cell {
-        Cell::Null => false,
-        Cell::Empty => matches!(layout, Layout::Variable),
-        Cell::Holds(_) => true,
+        Cell::Null => CellRef::Null,
+        Cell::Empty => CellRef::Empty,
+        Cell::Holds(ref scalar) => CellRef::Holds(scalar),
+    }
+}
+
+/// Whether a cell has a value in this layout: a value of no bytes is one only where as many bytes represent a value as it has.
+#[inline(always)]
+pub(crate) fn is_valid(layout: Layout, cell: CellRef<'_>) -> bool
+    ensures { result ≡ is_valid layout (cell_in cell.entry) }
+{
+    match cell {
+        CellRef::Null => false,
+        CellRef::Empty => matches!(layout, Layout::Variable),
+        CellRef::Holds(_) => true,
     }
 }
 
 /// Whether a cell has a value of no bytes.
 #[inline(always)]
-pub(crate) fn is_empty(cell: &Cell<'_>) -> bool
-    ensures { result ≡ is_empty (cell_of cell.now) }
+pub(crate) fn is_empty(cell: CellRef<'_>) -> bool
+    ensures { result ≡ is_empty (cell_in cell.entry) }
 {
-    matches!(*cell, Cell::Empty)
+    matches!(cell, CellRef::Empty)
 }
 
 /// Whether a cell is true.
 #[inline(always)]
-pub(crate) fn is_true(cell: &Cell<'_>) -> bool
-    ensures { result ≡ truth (cell_of cell.now) }
+pub(crate) fn is_true(cell: CellRef<'_>) -> bool
+    ensures { result ≡ truth (cell_in cell.entry) }
 {
-    matches!(*cell, Cell::Holds(Scalar::Boolean(true)))
+    matches!(cell, CellRef::Holds(&Scalar::Boolean(true)))
 }
 
 /// The kind of a scalar.

@@ -9,11 +9,13 @@ ghost use Rattle.cqlp_columns.specs.Arrays.{site, site_of, values_at, with_cell}
 ghost use Rattle.cqlp_columns.specs.Batches.{IsEmptyOf, IsMade, refusal_of_kind};
 ghost use Rattle.cqlp_columns.specs.Bits.{Spells, bits};
 ghost use Rattle.cqlp_columns.specs.Layouts.{layout_of};
-ghost use Rattle.cqlp_columns.specs.Cells.{Cell as CellValue, blank, cell_bits, cell_bytes, cell_of, is_of};
+ghost use Rattle.cqlp_columns.specs.Cells.{Cell as CellValue, blank, cell_bits, cell_bytes, cell_in, cell_of, is_of};
 
 use crate::bits::Bits;
 use crate::bytes::Bytes;
-use crate::cell::{Cell, is_empty, is_true, is_valid, kind_of, put_scalar, stored_len};
+use crate::cell::{
+    Cell, CellRef, is_empty, is_true, is_valid, kind_of, lend, put_scalar, stored_len,
+};
 use crate::layout::{Layout, layout_of};
 use cqlp_kind::Kind;
 use std::alloc::{AllocError, Allocator, Global};
@@ -248,16 +250,16 @@ impl<A: Allocator> Column<A> {
 
     /// Whether more bytes than so many represent a cell.
     #[inline(always)]
-    pub(crate) fn is_long(&self, cell: &Cell<'_>, content: u32) -> bool
-        ensures { result ≡ is_long content (cell_of cell.now) self.now }
+    pub(crate) fn is_long(&self, cell: CellRef<'_>, content: u32) -> bool
+        ensures { result ≡ is_long content (cell_in cell.entry) self.now }
     {
         cell_len(self.layout, cell) > content as usize
     }
 
     /// Whether a cell can be one of it.
     #[inline(always)]
-    pub(crate) fn is_of(&self, cell: &Cell<'_>) -> bool
-        ensures { result ≡ is_of self.now.kind (cell_of cell.now) }
+    pub(crate) fn is_of(&self, cell: CellRef<'_>) -> bool
+        ensures { result ≡ is_of self.now.kind (cell_in cell.entry) }
     {
         is_of(self.kind, cell)
     }
@@ -277,7 +279,7 @@ impl<A: Allocator> Column<A> {
         match self.refusal(cell) {
             Some(why) => Err(why),
             None => {
-                self.push(cell);
+                self.push(lend(cell));
                 Ok(())
             }
         }
@@ -288,6 +290,7 @@ impl<A: Allocator> Column<A> {
     pub fn refusal(&self, cell: &Cell<'_>) -> Option<ColumnRefusal>
         ensures { result ≡ refusal_of (cell_of cell.now) self.now }
     {
+        let cell = lend(cell);
         if !is_of(self.kind, cell) {
             return Some(ColumnRefusal::NotOfKind);
         }
@@ -300,8 +303,8 @@ impl<A: Allocator> Column<A> {
 
     /// Whether there is room for a cell.
     #[inline(always)]
-    fn fits(&self, cell: &Cell<'_>) -> bool
-        ensures { result ≡ fits (cell_of cell.now) self.now }
+    fn fits(&self, cell: CellRef<'_>) -> bool
+        ensures { result ≡ fits (cell_in cell.entry) self.now }
     {
         self.valid.len() < self.rows as usize
             && self.values.len() <= self.size
@@ -321,9 +324,9 @@ impl<A: Allocator> Column<A> {
 
     /// Adds a cell.
     #[inline(always)]
-    pub(crate) fn push(&mut self, cell: &Cell<'_>)
-        requires { refusal_of (cell_of cell.now) self.old ≡ None }
-        ensures { self.new ≡ with_cell (cell_of cell.now) self.old }
+    pub(crate) fn push(&mut self, cell: CellRef<'_>)
+        requires { refusal_of (cell_in cell) self.old ≡ None }
+        ensures { self.new ≡ with_cell (cell_in cell.entry) self.old }
     {
         let layout = self.layout_of_kind();
         put_cell(&mut self.values, layout, cell);
@@ -348,12 +351,12 @@ impl<A: Allocator> Column<A> {
 
 /// Whether a cell can be one of a column of this kind.
 #[inline(always)]
-fn is_of(kind: Kind, cell: &Cell<'_>) -> bool
-    ensures { result ≡ is_of kind (cell_of cell.now) }
+fn is_of(kind: Kind, cell: CellRef<'_>) -> bool
+    ensures { result ≡ is_of kind (cell_in cell.entry) }
 {
-    match *cell {
-        Cell::Null | Cell::Empty => true,
-        Cell::Holds(ref scalar) => is(kind_of(scalar), kind),
+    match cell {
+        CellRef::Null | CellRef::Empty => true,
+        CellRef::Holds(scalar) => is(kind_of(scalar), kind),
     }
 }
 
@@ -367,12 +370,12 @@ fn is(one: Kind, other: Kind) -> bool
 
 /// How many bytes are in a cell's place.
 #[inline(always)]
-fn cell_len(layout: Layout, cell: &Cell<'_>) -> usize
-    ensures { result ≡ length (cell_bytes layout (cell_of cell.now)) }
+fn cell_len(layout: Layout, cell: CellRef<'_>) -> usize
+    ensures { result ≡ length (cell_bytes layout (cell_in cell.entry)) }
 {
-    match *cell {
-        Cell::Null | Cell::Empty => blank_len(layout),
-        Cell::Holds(ref scalar) => stored_len(scalar),
+    match cell {
+        CellRef::Null | CellRef::Empty => blank_len(layout),
+        CellRef::Holds(scalar) => stored_len(scalar),
     }
 }
 
@@ -389,15 +392,15 @@ fn blank_len(layout: Layout) -> usize
 
 /// Adds the bytes in a cell's place, for which there is room.
 #[inline(always)]
-fn put_cell<A: Allocator>(values: &mut Bytes<A>, layout: Layout, cell: &Cell<'_>)
-    requires { length values.old.items + length (cell_bytes layout (cell_of cell.now)) ≤ values.old.room }
-    ensures items { values.new.items ≡ values.old.items ++ cell_bytes layout (cell_of cell.now) }
+fn put_cell<A: Allocator>(values: &mut Bytes<A>, layout: Layout, cell: CellRef<'_>)
+    requires { length values.old.items + length (cell_bytes layout (cell_in cell)) ≤ values.old.room }
+    ensures items { values.new.items ≡ values.old.items ++ cell_bytes layout (cell_in cell.entry) }
     ensures room { values.new.room ≡ values.old.room }
     ensures in_place { values.new.at ≡ values.old.at }
 {
-    match *cell {
-        Cell::Null | Cell::Empty => values.push_zeros(blank_len(layout)),
-        Cell::Holds(ref scalar) => put_scalar(values, scalar),
+    match cell {
+        CellRef::Null | CellRef::Empty => values.push_zeros(blank_len(layout)),
+        CellRef::Holds(scalar) => put_scalar(values, scalar),
     }
 }
 
@@ -407,12 +410,12 @@ fn put_beside<A: Allocator>(
     truths: &mut Bits<A>,
     offsets: &mut Vec<u64, A>,
     layout: Layout,
-    cell: &Cell<'_>,
+    cell: CellRef<'_>,
     end: u64,
 )
     requires room { length truths.old.bits < truths.old.room }
     requires place { length offsets.old.items < vec_capacity offsets.old }
-    ensures bits { truths.new ≡ bits (truths.old.bits ++ cell_bits layout (cell_of cell.now)) truths.old.room truths.old.at }
+    ensures bits { truths.new ≡ bits (truths.old.bits ++ cell_bits layout (cell_in cell.entry)) truths.old.room truths.old.at }
     ensures items { offsets.new.items ≡ offsets.old.items ++ offset_in layout end }
     ensures capacity { vec_capacity offsets.new ≡ vec_capacity offsets.old }
     ensures in_place { vec_ptr offsets.new ≡ vec_ptr offsets.old }

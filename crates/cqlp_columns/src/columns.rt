@@ -8,11 +8,11 @@ ghost use Rattle.cqlp_columns.specs.Arrays.{Site, site};
 ghost use Rattle.cqlp_columns.specs.Batches.{HasTaken, IsAnswerOf, IsMade, IsNew, batch, cleared, empty_column, empty_columns, fault_among, fault_at, fault_in};
 ghost use Rattle.cqlp_columns.specs.Batches.{has_layout, is_full, kinds_in, next_after, refusal_among, refusal_of_kinds, refusal_to, rows_in};
 ghost use Rattle.cqlp_columns.specs.Batches.{sites_in, with_cell_at, with_cell_in};
-ghost use Rattle.cqlp_columns.specs.Cells.{cell_of};
+ghost use Rattle.cqlp_columns.specs.Cells.{cell_in};
 ghost use Rattle.cqlp_columns.specs.Findings.{found_in};
 ghost use Rattle.cqlp_columns.specs.Turns.{AreEven, are_light, fault_out_of_turn, is_light_at, turn_to};
 
-use crate::cell::Cell;
+use crate::cell::CellRef;
 use crate::column::{Column, MakeError};
 use crate::found::{Found, found_in};
 use crate::layout::layout_of;
@@ -156,16 +156,16 @@ impl<A: Allocator> Columns<A> {
         match found_in(event) {
             Found::Nothing => Ok(()),
             Found::Part => Err(TakeError::Part),
-            Found::Cell { column, cell } => self.put(column as usize, &cell),
+            Found::Cell { column, cell } => self.put(column as usize, cell),
         }
     }
 
     /// Takes the next cell.
     #[inline(always)]
-    fn put(&mut self, column: usize, cell: &Cell<'_>) -> Result<(), TakeError>
+    fn put(&mut self, column: usize, cell: CellRef<'_>) -> Result<(), TakeError>
         requires { column < 2 ^ 32 }
-        ensures answer { IsAnswerOf (fault_at column (cell_of cell.now) self.old) result }
-        ensures taken { IsOk result → self.new ≡ with_cell_at column (cell_of cell.now) self.old }
+        ensures answer { IsAnswerOf (fault_at column (cell_in cell.entry) self.old) result }
+        ensures taken { IsOk result → self.new ≡ with_cell_at column (cell_in cell.entry) self.old }
         ensures refused { OnErr result (self.new ≡ self.old) }
     {
         match self.fault(column, cell) {
@@ -181,9 +181,9 @@ impl<A: Allocator> Columns<A> {
 
     /// Why a cell of a column is not taken.
     #[inline(always)]
-    fn fault(&self, column: usize, cell: &Cell<'_>) -> Option<TakeError>
+    fn fault(&self, column: usize, cell: CellRef<'_>) -> Option<TakeError>
         requires { column < 2 ^ 32 }
-        ensures { result ≡ fault_at column (cell_of cell.now) self.now }
+        ensures { result ≡ fault_at column (cell_in cell.entry) self.now }
     {
         if column != self.turn {
             return Some(fault_out_of_turn(self.turn, column));
@@ -265,9 +265,9 @@ fn fault_among<A: Allocator>(
     columns: &[Column<A>],
     limits: BatchLimits,
     column: usize,
-    cell: &Cell<'_>,
+    cell: CellRef<'_>,
 ) -> Option<TakeError>
-    ensures { result ≡ fault_among limits column (cell_of cell.now) columns.now }
+    ensures { result ≡ fault_among limits column (cell_in cell.entry) columns.now }
 {
     if column < columns.len() {
         fault_in(&columns[column], limits, cell)
@@ -281,9 +281,9 @@ fn fault_among<A: Allocator>(
 fn fault_in<A: Allocator>(
     column: &Column<A>,
     limits: BatchLimits,
-    cell: &Cell<'_>,
+    cell: CellRef<'_>,
 ) -> Option<TakeError>
-    ensures { result ≡ fault_in limits (cell_of cell.now) column.now }
+    ensures { result ≡ fault_in limits (cell_in cell.entry) column.now }
 {
     if !column.is_of(cell) {
         Some(TakeError::NotOfKind)
@@ -300,11 +300,11 @@ fn put_in<A: Allocator>(
     columns: &mut [Column<A>],
     limits: BatchLimits,
     column: usize,
-    cell: &Cell<'_>,
+    cell: CellRef<'_>,
 ) -> bool
     requires there { column < length columns.old }
-    requires takes { refusal_among column (cell_of cell.now) columns.old ≡ None }
-    ensures more { columns.new ≡ with_cell_in column (cell_of cell.now) columns.old }
+    requires takes { refusal_among column (cell_in cell) columns.old ≡ None }
+    ensures more { columns.new ≡ with_cell_in column (cell_in cell.entry) columns.old }
     ensures light { result ≡ is_light_at limits column columns.new }
 {
     let column = &mut columns[column];

@@ -1,6 +1,6 @@
 //! Columns, and a sink beside them.
 
-ghost use Rattle.std.specs.Prelude.{◌≡◌, ◌≤◌, length, false, Some};
+ghost use Rattle.std.specs.Prelude.{◌≡◌, ◌≤◌, OnErr, OnOk, Some, false, length};
 ghost use Rattle.cqlp_note.specs.declared.refusal.Refusal.{Refusal};
 ghost use Rattle.cqlp_grammar.specs.Events.{event_of};
 ghost use Rattle.cqlp_decode.specs.Sinks.{Fails, Gets};
@@ -147,7 +147,7 @@ impl<S: Sink, A: Allocator> PageColumns<S, A> {
                 Went::Cell
             }
         } else {
-            match self.other.take(at, event) {
+            match pass(&mut self.other, at, *event) {
                 Ok(()) => Went::Other,
                 Err(SinkFault) => Went::Failed,
             }
@@ -204,5 +204,18 @@ fn is_whole(event: &Event<'_>) -> bool
         | Event::Inet { .. }
         | Event::TypeNode(_)
         | Event::End { .. } => false,
+    }
+}
+
+/// Hands an event to a sink. It is given a copy, so that an event which is not handed on need not lie in memory.
+#[cold]
+#[inline(never)]
+fn pass<S: Sink>(sink: &mut S, at: u64, event: Event<'_>) -> Result<(), SinkFault>
+    ensures got { OnOk result (Gets S.Sink sink.old at (event_of event.entry) sink.new) }
+    ensures failed { OnErr result (Fails S.Sink sink.old at (event_of event.entry) sink.new) }
+{
+    match sink.take(at, &event) {
+        Ok(()) => Ok(()),
+        Err(SinkFault) => Err(SinkFault),
     }
 }

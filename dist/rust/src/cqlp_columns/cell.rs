@@ -18,26 +18,47 @@ pub enum Cell<'a> {
     Holds(Scalar<'a>),
 }
 
+/// A cell whose scalar lies elsewhere, so that none is copied.
+#[derive(Clone, Copy)]
+pub(crate) enum CellRef<'a> {
+    /// A value of a negative length.
+    Null,
+    /// A value of no bytes.
+    Empty,
+    /// A value with bytes.
+    Holds(&'a Scalar<'a>),
+}
+
+/// A cell with its scalar where it lies.
+#[inline(always)]
+pub(crate) fn lend<'a>(cell: &'a Cell<'a>) -> CellRef<'a> {
+    match *cell {
+        Cell::Null => CellRef::Null,
+        Cell::Empty => CellRef::Empty,
+        Cell::Holds(ref scalar) => CellRef::Holds(scalar),
+    }
+}
+
 /// Whether a cell has a value in this layout: a value of no bytes is one only where as many bytes represent a value as it has.
 #[inline(always)]
-pub(crate) fn is_valid(layout: Layout, cell: &Cell<'_>) -> bool {
-    match *cell {
-        Cell::Null => false,
-        Cell::Empty => matches!(layout, Layout::Variable),
-        Cell::Holds(_) => true,
+pub(crate) fn is_valid(layout: Layout, cell: CellRef<'_>) -> bool {
+    match cell {
+        CellRef::Null => false,
+        CellRef::Empty => matches!(layout, Layout::Variable),
+        CellRef::Holds(_) => true,
     }
 }
 
 /// Whether a cell has a value of no bytes.
 #[inline(always)]
-pub(crate) fn is_empty(cell: &Cell<'_>) -> bool {
-    matches!(*cell, Cell::Empty)
+pub(crate) fn is_empty(cell: CellRef<'_>) -> bool {
+    matches!(cell, CellRef::Empty)
 }
 
 /// Whether a cell is true.
 #[inline(always)]
-pub(crate) fn is_true(cell: &Cell<'_>) -> bool {
-    matches!(*cell, Cell::Holds(Scalar::Boolean(true)))
+pub(crate) fn is_true(cell: CellRef<'_>) -> bool {
+    matches!(cell, CellRef::Holds(&Scalar::Boolean(true)))
 }
 
 /// The kind of a scalar.

@@ -4,7 +4,9 @@
 use crate::kit_std::prelude::{Clone, Vec};
 use crate::cqlp_columns::bits::Bits;
 use crate::cqlp_columns::bytes::Bytes;
-use crate::cqlp_columns::cell::{Cell, is_empty, is_true, is_valid, kind_of, put_scalar, stored_len};
+use crate::cqlp_columns::cell::{
+    Cell, CellRef, is_empty, is_true, is_valid, kind_of, lend, put_scalar, stored_len,
+};
 use crate::cqlp_columns::layout::{Layout, layout_of};
 use crate::cqlp_kind::Kind;
 use crate::kit_std::alloc::{AllocError, Allocator, Global};
@@ -173,13 +175,13 @@ impl<A: Allocator> Column<A> {
 
     /// Whether more bytes than so many represent a cell.
     #[inline(always)]
-    pub(crate) fn is_long(&self, cell: &Cell<'_>, content: u32) -> bool {
+    pub(crate) fn is_long(&self, cell: CellRef<'_>, content: u32) -> bool {
         cell_len(self.layout, cell) > content as usize
     }
 
     /// Whether a cell can be one of it.
     #[inline(always)]
-    pub(crate) fn is_of(&self, cell: &Cell<'_>) -> bool {
+    pub(crate) fn is_of(&self, cell: CellRef<'_>) -> bool {
         is_of(self.kind, cell)
     }
 
@@ -193,7 +195,7 @@ impl<A: Allocator> Column<A> {
         match self.refusal(cell) {
             Some(why) => Err(why),
             None => {
-                self.push(cell);
+                self.push(lend(cell));
                 Ok(())
             }
         }
@@ -202,6 +204,7 @@ impl<A: Allocator> Column<A> {
     /// Why it does not take a cell.
     #[inline(always)]
     pub fn refusal(&self, cell: &Cell<'_>) -> Option<ColumnRefusal> {
+        let cell = lend(cell);
         if !is_of(self.kind, cell) {
             return Some(ColumnRefusal::NotOfKind);
         }
@@ -214,7 +217,7 @@ impl<A: Allocator> Column<A> {
 
     /// Whether there is room for a cell.
     #[inline(always)]
-    fn fits(&self, cell: &Cell<'_>) -> bool {
+    fn fits(&self, cell: CellRef<'_>) -> bool {
         self.valid.len() < self.rows as usize
             && self.values.len() <= self.size
             && cell_len(self.layout, cell) <= self.size - self.values.len()
@@ -231,7 +234,7 @@ impl<A: Allocator> Column<A> {
 
     /// Adds a cell.
     #[inline(always)]
-    pub(crate) fn push(&mut self, cell: &Cell<'_>) {
+    pub(crate) fn push(&mut self, cell: CellRef<'_>) {
         let layout = self.layout_of_kind();
         put_cell(&mut self.values, layout, cell);
         let end = self.values.len() as u64;
@@ -253,10 +256,10 @@ impl<A: Allocator> Column<A> {
 
 /// Whether a cell can be one of a column of this kind.
 #[inline(always)]
-fn is_of(kind: Kind, cell: &Cell<'_>) -> bool {
-    match *cell {
-        Cell::Null | Cell::Empty => true,
-        Cell::Holds(ref scalar) => is(kind_of(scalar), kind),
+fn is_of(kind: Kind, cell: CellRef<'_>) -> bool {
+    match cell {
+        CellRef::Null | CellRef::Empty => true,
+        CellRef::Holds(scalar) => is(kind_of(scalar), kind),
     }
 }
 
@@ -268,10 +271,10 @@ fn is(one: Kind, other: Kind) -> bool {
 
 /// How many bytes are in a cell's place.
 #[inline(always)]
-fn cell_len(layout: Layout, cell: &Cell<'_>) -> usize {
-    match *cell {
-        Cell::Null | Cell::Empty => blank_len(layout),
-        Cell::Holds(ref scalar) => stored_len(scalar),
+fn cell_len(layout: Layout, cell: CellRef<'_>) -> usize {
+    match cell {
+        CellRef::Null | CellRef::Empty => blank_len(layout),
+        CellRef::Holds(scalar) => stored_len(scalar),
     }
 }
 
@@ -286,10 +289,10 @@ fn blank_len(layout: Layout) -> usize {
 
 /// Adds the bytes in a cell's place, for which there is room.
 #[inline(always)]
-fn put_cell<A: Allocator>(values: &mut Bytes<A>, layout: Layout, cell: &Cell<'_>) {
-    match *cell {
-        Cell::Null | Cell::Empty => values.push_zeros(blank_len(layout)),
-        Cell::Holds(ref scalar) => put_scalar(values, scalar),
+fn put_cell<A: Allocator>(values: &mut Bytes<A>, layout: Layout, cell: CellRef<'_>) {
+    match cell {
+        CellRef::Null | CellRef::Empty => values.push_zeros(blank_len(layout)),
+        CellRef::Holds(scalar) => put_scalar(values, scalar),
     }
 }
 
@@ -299,7 +302,7 @@ fn put_beside<A: Allocator>(
     truths: &mut Bits<A>,
     offsets: &mut Vec<u64, A>,
     layout: Layout,
-    cell: &Cell<'_>,
+    cell: CellRef<'_>,
     end: u64,
 )
 {

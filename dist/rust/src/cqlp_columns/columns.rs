@@ -2,7 +2,7 @@
 //! Rows of a page as columns.
 
 use crate::kit_std::prelude::{Clone, Vec};
-use crate::cqlp_columns::cell::Cell;
+use crate::cqlp_columns::cell::CellRef;
 use crate::cqlp_columns::column::{Column, MakeError};
 use crate::cqlp_columns::found::{Found, found_in};
 use crate::cqlp_columns::layout::layout_of;
@@ -120,13 +120,13 @@ impl<A: Allocator> Columns<A> {
         match found_in(event) {
             Found::Nothing => Ok(()),
             Found::Part => Err(TakeError::Part),
-            Found::Cell { column, cell } => self.put(column as usize, &cell),
+            Found::Cell { column, cell } => self.put(column as usize, cell),
         }
     }
 
     /// Takes the next cell.
     #[inline(always)]
-    fn put(&mut self, column: usize, cell: &Cell<'_>) -> Result<(), TakeError> {
+    fn put(&mut self, column: usize, cell: CellRef<'_>) -> Result<(), TakeError> {
         match self.fault(column, cell) {
             Some(why) => Err(why),
             None => {
@@ -140,7 +140,7 @@ impl<A: Allocator> Columns<A> {
 
     /// Why a cell of a column is not taken.
     #[inline(always)]
-    fn fault(&self, column: usize, cell: &Cell<'_>) -> Option<TakeError> {
+    fn fault(&self, column: usize, cell: CellRef<'_>) -> Option<TakeError> {
         if column != self.turn {
             return Some(fault_out_of_turn(self.turn, column));
         }
@@ -207,7 +207,7 @@ fn fault_among<A: Allocator>(
     columns: &[Column<A>],
     limits: BatchLimits,
     column: usize,
-    cell: &Cell<'_>,
+    cell: CellRef<'_>,
 ) -> Option<TakeError> {
     if column < columns.len() {
         fault_in(&columns[column], limits, cell)
@@ -221,7 +221,7 @@ fn fault_among<A: Allocator>(
 fn fault_in<A: Allocator>(
     column: &Column<A>,
     limits: BatchLimits,
-    cell: &Cell<'_>,
+    cell: CellRef<'_>,
 ) -> Option<TakeError> {
     if !column.is_of(cell) {
         Some(TakeError::NotOfKind)
@@ -238,7 +238,7 @@ fn put_in<A: Allocator>(
     columns: &mut [Column<A>],
     limits: BatchLimits,
     column: usize,
-    cell: &Cell<'_>,
+    cell: CellRef<'_>,
 ) -> bool {
     let column = &mut columns[column];
     column.push(cell);

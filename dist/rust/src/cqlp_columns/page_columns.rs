@@ -110,7 +110,7 @@ impl<S: Sink, A: Allocator> PageColumns<S, A> {
                 Went::Cell
             }
         } else {
-            match self.other.take(at, event) {
+            match pass(&mut self.other, at, *event) {
                 Ok(()) => Went::Other,
                 Err(SinkFault) => Went::Failed,
             }
@@ -152,5 +152,15 @@ fn is_whole(event: &Event<'_>) -> bool {
         | Event::Inet { .. }
         | Event::TypeNode(_)
         | Event::End { .. } => false,
+    }
+}
+
+/// Hands an event to a sink. It is given a copy, so that an event which is not handed on need not lie in memory.
+#[cold]
+#[inline(never)]
+fn pass<S: Sink>(sink: &mut S, at: u64, event: Event<'_>) -> Result<(), SinkFault> {
+    match sink.take(at, &event) {
+        Ok(()) => Ok(()),
+        Err(SinkFault) => Err(SinkFault),
     }
 }

@@ -1,7 +1,7 @@
 use Rattle.std.proofs.Common.{◌≡◌, ◌+◌, ◌++◌, ◌∙◌, ◌<◌, ◌^◌, ℕ, List, None, ap, arith, drop, length, subst, sym, take}
 use Rattle.cqlp_columns.specs.Arrays.{Column}
 use Rattle.cqlp_columns.specs.Batches.{Batch, batch, fault_at, next_after, refusal_among, with_cell_at, with_cell_in}
-use Rattle.cqlp_columns.specs.Cells.{cell_of}
+use Rattle.cqlp_columns.specs.Cells.{cell_in}
 use Rattle.cqlp_columns.specs.Turns.{AreEven, are_light, is_light_at, next_in, turn_to}
 use Rattle.cqlp_columns.proofs.Ready.{none_among, ready_takes, there, written_back}
 use Rattle.cqlp_columns.proofs.Turns.{as_long, even_put, kept_more, light_put}
@@ -13,7 +13,7 @@ put_in-light-requires-clause-there g c =
     let items = inside.columns.items in
     let k = c.args.column in
     let b = batch inside.limits items (next_in inside.turn) in
-    let cell = cell_of c.args.cell.now in
+    let cell = cell_in c.args.cell in
     let none : fault_at k cell b ≡ None = ap (λ (x : Batch). fault_at k cell x) c.self.view_is ∙ sym c.in-None.ensures in
     subst (λ (x : List Column). k < length x) (sym c.as_mut_slice.ensures.value) (there inside.limits k cell items (none_among k cell b none))
 
@@ -23,7 +23,7 @@ put_in-light-requires-clause-takes g c =
     let items = inside.columns.items in
     let k = c.args.column in
     let b = batch inside.limits items (next_in inside.turn) in
-    let cell = cell_of c.args.cell.now in
+    let cell = cell_in c.args.cell in
     let none : fault_at k cell b ≡ None = ap (λ (x : Batch). fault_at k cell x) c.self.view_is ∙ sym c.in-None.ensures in
     ap (λ (x : List Column). refusal_among k cell x) c.as_mut_slice.ensures.value
     ∙ ready_takes inside.limits items (next_in inside.turn) k cell c.self.invariant.0.ready none
@@ -34,7 +34,7 @@ turn_after-self-inside-requires-clause-there g c =
     let items = inside.columns.items in
     let k = c.args.column in
     let b = batch inside.limits items (next_in inside.turn) in
-    let cell = cell_of c.args.cell.now in
+    let cell = cell_in c.args.cell in
     let none : fault_at k cell b ≡ None = ap (λ (x : Batch). fault_at k cell x) c.self.view_is ∙ sym c.in-None.ensures in
     let new = c.put_in-light.new.columns in
     let back = written_back new items inside.columns.len (omega (arith, c.as_mut_slice.ensures.len, c.put_in-light.auto.columns)) in
@@ -48,7 +48,7 @@ turn_after-self-inside-requires-clause-light g c =
     let items = inside.columns.items in
     let k = c.args.column in
     let b = batch inside.limits items (next_in inside.turn) in
-    let cell = cell_of c.args.cell.now in
+    let cell = cell_in c.args.cell in
     let none : fault_at k cell b ≡ None = ap (λ (x : Batch). fault_at k cell x) c.self.view_is ∙ sym c.in-None.ensures in
     let new = c.put_in-light.new.columns in
     let back = written_back new items inside.columns.len (omega (arith, c.as_mut_slice.ensures.len, c.put_in-light.auto.columns)) in
@@ -64,7 +64,7 @@ turn_after-self-inside-requires-clause-even g c =
     let items = inside.columns.items in
     let k = c.args.column in
     let b = batch inside.limits items (next_in inside.turn) in
-    let cell = cell_of c.args.cell.now in
+    let cell = cell_in c.args.cell in
     let none : fault_at k cell b ≡ None = ap (λ (x : Batch). fault_at k cell x) c.self.view_is ∙ sym c.in-None.ensures in
     let new = c.put_in-light.new.columns in
     let back = written_back new items inside.columns.len (omega (arith, c.as_mut_slice.ensures.len, c.put_in-light.auto.columns)) in
@@ -78,7 +78,7 @@ invariant_of-self g c =
     let items = inside.columns.items in
     let k = c.args.column in
     let b = batch inside.limits items (next_in inside.turn) in
-    let cell = cell_of c.args.cell.now in
+    let cell = cell_in c.args.cell in
     let none : fault_at k cell b ≡ None = ap (λ (x : Batch). fault_at k cell x) c.self.view_is ∙ sym c.in-None.ensures in
     let new = c.put_in-light.new.columns in
     let back = written_back new items inside.columns.len (omega (arith, c.as_mut_slice.ensures.len, c.put_in-light.auto.columns)) in
@@ -98,7 +98,7 @@ returns-in-None-clause-taken g c =
     let items = inside.columns.items in
     let k = c.args.column in
     let b = batch inside.limits items (next_in inside.turn) in
-    let cell = cell_of c.args.cell.now in
+    let cell = cell_in c.args.cell in
     let none : fault_at k cell b ≡ None = ap (λ (x : Batch). fault_at k cell x) c.self.view_is ∙ sym c.in-None.ensures in
     let new = c.put_in-light.new.columns in
     let back = written_back new items inside.columns.len (omega (arith, c.as_mut_slice.ensures.len, c.put_in-light.auto.columns)) in

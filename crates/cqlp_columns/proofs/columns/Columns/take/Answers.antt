@@ -1,6 +1,6 @@
 use Rattle.std.proofs.Common.{sym}
 use Rattle.cqlp_grammar.specs.Events.{event_of}
-use Rattle.cqlp_columns.specs.Cells.{cell_of}
+use Rattle.cqlp_columns.specs.Cells.{cell_in}
 use Rattle.cqlp_columns.proofs.Taking.{answered, batch_more, batch_nothing}
 use Rattle.cqlp_columns.proofs.columns.Columns.take.Goals as goal
 
@@ -10,4 +10,4 @@ returns-in-Nothing-clause-taken g c =
 
 pub returns-in-Cell-clause-taken : goal.returns-in-Cell-clause-taken
 returns-in-Cell-clause-taken g c =
-    λ ok kinds es h. batch_more c.args.self.now.limits kinds es (event_of c.args.event.now) c.in-Cell.column (cell_of c.in-Cell.cell) c.args.self.now c.put.new.self (sym c.in-Cell.ensures) (answered _ _ ok c.put.ensures.answer) (c.put.ensures.taken ok) h
+    λ ok kinds es h. batch_more c.args.self.now.limits kinds es (event_of c.args.event.now) c.in-Cell.column (cell_in c.in-Cell.cell) c.args.self.now c.put.new.self (sym c.in-Cell.ensures) (answered _ _ ok c.put.ensures.answer) (c.put.ensures.taken ok) h
