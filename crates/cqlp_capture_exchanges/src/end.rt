@@ -2,7 +2,7 @@
 
 ghost use Rattle.std.specs.Prelude.{◌≡◌, ◌+◌, ◌++◌, ◌<◌, ◌≤◌, codes, length};
 ghost use Rattle.std.specs.Char.{digit_char};
-ghost use Rattle.std.specs.Net.Addr.{ipv6_segments};
+ghost use Rattle.std.specs.Net.Addr.{ipv6_segments, segments_of};
 ghost use Rattle.std.specs.Net.Text.{groups_text, hex, hex_groups_text, ipv4_text, ipv6_text, leading_zero_digits, longest_zero_run};
 ghost use Rattle.cqlp_text.specs.Written.{Writes};
 ghost use Rattle.cqlp_capture_exchanges.specs.Ends.{address_text, bracketed, end_text, ip_text};
@@ -25,11 +25,8 @@ fn put_host<P: Pen>(writer: &mut TextWriter<P>, address: Address) -> Result<(), 
     ensures { Writes writer.old (address_text address) result writer.new }
 {
     match address {
-        Address::V4(octets) => put_ipv4(writer, octets),
-        Address::V6(octets) => {
-            let ip = Ipv6Addr::from(octets);
-            put_bracketed(writer, ip)
-        }
+        Address::V4(_) => put_ip(writer, address),
+        Address::V6(octets) => put_bracketed(writer, octets),
     }
 }
 
@@ -53,11 +50,12 @@ fn put_ipv4<P: Pen>(writer: &mut TextWriter<P>, octets: [u8; 4]) -> Result<(), S
     writer.put_address(cqlp_note::Address::V4(octets))
 }
 
-fn put_bracketed<P: Pen>(writer: &mut TextWriter<P>, address: Ipv6Addr) -> Result<(), SinkFault>
-    ensures { Writes writer.old (bracketed (ipv6_segments address)) result writer.new }
+/// Takes an IPv6 address in brackets.
+fn put_bracketed<P: Pen>(writer: &mut TextWriter<P>, octets: [u8; 16]) -> Result<(), SinkFault>
+    ensures { Writes writer.old (bracketed (segments_of octets)) result writer.new }
 {
     writer.put(b"[")?;
-    put_ipv6(writer, address)?;
+    put_ip(writer, Address::V6(octets))?;
     writer.put(b"]")
 }
 

@@ -56,7 +56,7 @@ impl Label {
     }
 
     /// Takes bytes that there is room for.
-    fn add(&mut self, bytes: &[u8])
+    pub(crate) fn add(&mut self, bytes: &[u8])
         requires { length self.old.text + length bytes.now ≤ 256 }
         ensures { self.new ≡ label (self.old.text ++ bytes.now) self.old.failures self.old.writes }
     {

@@ -8,7 +8,7 @@ ghost use Rattle.cqlp_capture_exchanges.specs.Notings.{rows_in, text_request, un
 ghost use Rattle.cqlp_capture_exchanges.specs.Notings.{with_report, with_request, with_request_by};
 
 use crate::attribute::append_attribute;
-use crate::batch_name::{BatchName, MOST};
+use crate::batch_name::{MOST, batch_name};
 use crate::connection::Connection;
 use crate::filter::is_failure;
 use crate::form::ExchangeForm;
@@ -182,7 +182,7 @@ fn note_text<A: Allocator, B: Allocator>(
     ensures { summary.new ≡ noted_as naming (text_request text.now is_whole request.now outcome.now) summary.old }
 {
     if is_batch(request.frame.header.opcode) {
-        let name = BatchName::new(text.as_bytes());
+        let name = batch_name(text.as_bytes());
         note_as(
             summary,
             naming,

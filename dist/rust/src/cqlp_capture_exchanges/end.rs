@@ -15,11 +15,8 @@ pub(crate) fn put_end<P: Pen>(writer: &mut TextWriter<P>, end: Endpoint) -> Resu
 
 fn put_host<P: Pen>(writer: &mut TextWriter<P>, address: Address) -> Result<(), SinkFault> {
     match address {
-        Address::V4(octets) => put_ipv4(writer, octets),
-        Address::V6(octets) => {
-            let ip = Ipv6Addr::from(octets);
-            put_bracketed(writer, ip)
-        }
+        Address::V4(_) => put_ip(writer, address),
+        Address::V6(octets) => put_bracketed(writer, octets),
     }
 }
 
@@ -39,9 +36,10 @@ fn put_ipv4<P: Pen>(writer: &mut TextWriter<P>, octets: [u8; 4]) -> Result<(), S
     writer.put_address(crate::cqlp_note::Address::V4(octets))
 }
 
-fn put_bracketed<P: Pen>(writer: &mut TextWriter<P>, address: Ipv6Addr) -> Result<(), SinkFault> {
+/// Takes an IPv6 address in brackets.
+fn put_bracketed<P: Pen>(writer: &mut TextWriter<P>, octets: [u8; 16]) -> Result<(), SinkFault> {
     writer.put(b"[")?;
-    put_ipv6(writer, address)?;
+    put_ip(writer, Address::V6(octets))?;
     writer.put(b"]")
 }
 

@@ -2,7 +2,7 @@
 //! Requests with what came of them, counted in a summary.
 
 use crate::cqlp_capture_exchanges::attribute::append_attribute;
-use crate::cqlp_capture_exchanges::batch_name::{BatchName, MOST};
+use crate::cqlp_capture_exchanges::batch_name::{MOST, batch_name};
 use crate::cqlp_capture_exchanges::connection::Connection;
 use crate::cqlp_capture_exchanges::filter::is_failure;
 use crate::cqlp_capture_exchanges::form::ExchangeForm;
@@ -165,7 +165,7 @@ fn note_text<A: Allocator, B: Allocator>(
 )
 {
     if is_batch(request.frame.header.opcode) {
-        let name = BatchName::new(text.as_bytes());
+        let name = batch_name(text.as_bytes());
         note_as(
             summary,
             naming,

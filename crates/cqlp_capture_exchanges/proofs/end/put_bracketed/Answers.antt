@@ -7,13 +7,13 @@ pub returns-in_err-put : goal.returns-in_err-put
 returns-in_err-put g c =
     said_stops _ c.from_residual.result c.from_residual.ensures.0 (progress_starts _ _) refl refl c.in_err-put.ensures
 
-pub returns-in_err-put_ipv6 : goal.returns-in_err-put_ipv6
-returns-in_err-put_ipv6 g c =
+pub returns-in_err-put_ip : goal.returns-in_err-put_ip
+returns-in_err-put_ip g c =
     let s1 = said_next _ (progress_starts _ _) refl refl c.in_ok-put.ensures in
-    said_stops _ c.from_residual-in_err-put_ipv6.result c.from_residual-in_err-put_ipv6.ensures.0 s1 refl refl c.in_err-put_ipv6.ensures
+    said_stops _ c.from_residual-in_err-put_ip.result c.from_residual-in_err-put_ip.ensures.0 s1 refl refl c.in_err-put_ip.ensures
 
 pub returns : goal.returns
 returns g c =
     let s1 = said_next _ (progress_starts _ _) refl refl c.in_ok-put.ensures in
-    let s2 = said_next _ s1 refl refl c.in_ok-put_ipv6.ensures in
+    let s2 = said_next _ s1 refl refl c.in_ok-put_ip.ensures in
     said_last _ _ c.put-2.result s2 refl refl c.put-2.ensures

@@ -1,5 +1,6 @@
 use Rattle.std.proofs.Common.{◌∙◌, ◌&&◌, Bool, ap, length, if◌then◌else◌}
 use Rattle.std.specs.Prelude.{nat_le}
+use Rattle.cqlp_capture_exchanges.specs.Labels.{Label}
 use Rattle.cqlp_capture_exchanges.specs.Notings.{batch_name, noted_as, request_as}
 use Rattle.cqlp_capture_exchanges.proofs.noting.note_text.Goals as goal
 
@@ -8,7 +9,7 @@ returns-then-is_batch g c =
     let n = c.args.naming in
     let o = c.args.outcome.now in
     let text = c.args.text.now in
-    let name = c.as_slice.ensures ∙ c.new-name.ensures ∙ ap batch_name c.as_bytes.ensures.value in
+    let name = c.as_slice.ensures.bytes ∙ ap (λ (l : Label). l.text) c.batch_name-name.ensures ∙ ap batch_name c.as_bytes.ensures.value in
     let as_batch = request_as (batch_name text) (c.args.is_whole && nat_le (length text) 250) o in
     let as_one = request_as text c.args.is_whole o in
     c.note_as.ensures ∙ (λ i. noted_as n (request_as (name i) (c.has_all.ensures i) o) c.args.summary.now)
