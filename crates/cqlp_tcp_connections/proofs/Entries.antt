@@ -1,6 +1,6 @@
 -- The connections of a pool, as the entries of its cache.
 use Rattle.std.proofs.Common.{◌≡◌, ℕ, zero, suc, ◌+◌, ◌-◌, ◌<◌, ◌≤◌, Bool, true, false, cond, List, [], ◌∷◌, ◌++◌, length, take, drop, refl, sym, ap, subst, ◌∙◌, arith}
-use Rattle.std.specs.Prelude.{◌==◌, ◌&&◌, not, bytes_eq, nat_lt, OnErr, Result, Ok, Err, Option, Some, None, is_some, option_map, slice_get}
+use Rattle.std.specs.Prelude.{◌==◌, ◌&&◌, not, bytes_eq, nat_lt, OnErr, Result, Ok, Err, Option, Some, None, option_map, slice_get}
 use Rattle.std.specs.List.{AllByRecursion, IsDistinct, position_or_len, remove}
 use Rattle.std.specs.Cmp.{nat_eq_equiv}
 use Rattle.std.specs.Map.{keys_of, lookup, lookup_entry, remove_entry, set_value}
@@ -10,16 +10,20 @@ use Rattle.lru.specs.LruCache.{last_entry, lru_cache, promoted, put_entries}
 use Rattle.cqlp_tcp_segment.specs.declared.addresses.Address.{Address}
 use Rattle.cqlp_tcp_segment.specs.declared.addresses.Address.TheVariants.{V4, V6}
 use Rattle.cqlp_tcp_segment.specs.declared.addresses.Endpoint.{Endpoint}
+use Rattle.cqlp_tcp_segment.specs.declared.segments.SegmentHead.{SegmentHead}
 use Rattle.cqlp_tcp_segment.specs.contracts.addresses.AddressPartialEq.TheImpl.{eq-value as address-eq}
 use Rattle.cqlp_tcp_segment.specs.contracts.addresses.EndpointPartialEq.TheImpl.{eq-value as end-eq}
 use Rattle.cqlp_tcp_connections.specs.contracts.ends.EndsPartialEq.TheImpl.{eq-value}
 use Rattle.cqlp_tcp_connections.specs.declared.ends.Ends.{Ends}
 use Rattle.cqlp_tcp_connections.specs.Ends.{same_address, same_end, same_ends}
 use Rattle.cqlp_tcp_connections.specs.declared.limits.ConnectionLimits.{ConnectionLimits}
+use Rattle.cqlp_tcp_connections.specs.declared.ends.Way.{Way}
+use Rattle.cqlp_tcp_connections.specs.declared.delivery.Admission.{Admission}
 use Rattle.cqlp_tcp_connections.specs.declared.delivery.WayStep.{WayStep}
-use Rattle.cqlp_tcp_connections.specs.Known.{Flows, Known, Delivering, known, size_of, delivering}
+use Rattle.cqlp_tcp_connections.specs.Known.{Flows, Known, Delivering, Meeting, known, meeting, met, size_of, delivering}
 use Rattle.cqlp_tcp_connections.specs.Tables.{between, early_of, first_becomes, first_delivering, first_delivers, found_in, last_first, to_front}
-use Rattle.cqlp_tcp_connections.specs.Pools.{PoolState, bringing, brought, first_of, known_of, pool}
+use Rattle.cqlp_tcp_connections.specs.Pools.{PoolState, first_of, known_of, pool, seeing, seen_at, seen_between, seen_by_first}
+use Rattle.cqlp_tcp_connections.proofs.Sizes.{met_size}
 
 -- `==` of ends, by which the cache finds them
 abbrev pub eq_ends : Ends → Ends → Bool
@@ -138,24 +142,82 @@ module _ (k : Ends) (test : Ends → Bool) (same : (e : Ends) → test e ≡ sam
       let goes : promoted test es ≡ e ∷ remove_entry test es = rw h refl in
       ap known_of goes ∙ sym (ap (λ (l : List Known). l ++ remove (known_of es) (place_of k es)) so.one ∙ ap (λ (l : List Known). known e.0 e.1 ∷ l) so.rest)
 
-  -- what `promote` does
-  promote_by : (es : List Entry) (o : Option Entry) → lookup_entry test es ≡ o → bringing (is_some (lookup test es)) (known_of (promoted test es)) ≡ brought k (known_of es)
-  promote_by es None h =
-      let so = absent_entry es h in
-      let value = so.value in
-      let at = at_absent es so.place in
-      let stays : promoted test es ≡ es = rw h refl in
-      cc
-  promote_by es (Some e) h =
-      let so = found_entry es e h in
-      let value = so.value in
-      let at = at_found es so.within in
-      let front = fronted es e h in
-      cc
+-- a value that is written to the first entry
+pub first_set : (e : Entry) (es : List Entry) (test : Ends → Bool) (w : Flows) → test e.0 ≡ true → set_value test (e ∷ es) w ≡ (e.0, w) ∷ es
+first_set e es test w t = ap (λ (b : Bool). cond b ((e.0, w) ∷ es) (e ∷ set_value test es w)) t
 
--- what `promote` does
-pub promote_is : (k : Ends) (test : Ends → Bool) → ((e : Ends) → test e ≡ same_ends k e) → (es : List Entry) → bringing (is_some (lookup test es)) (known_of (promoted test es)) ≡ brought k (known_of es)
-promote_is k test same es = promote_by k test same es (lookup_entry test es) refl
+-- ---- what a segment is to the connection between some ends
+
+pub entry_test : (test : Ends → Bool) (es : List Entry) (e : Entry) → lookup_entry test es ≡ Some e → test e.0 ≡ true
+entry_test test [] e h = absurd cc
+entry_test test (f ∷ es) e h = (elim (test f.0) as (λ y. test f.0 ≡ y → test e.0 ≡ true) [
+  | true ↦ λ t. let h' = rw t at h in let one : f ≡ e = cc in subst (λ (x : Entry). test x.0 ≡ true) one t
+  | false ↦ λ t. entry_test test es e (rw t at h)
+]) refl
+
+see_by : (way : Way) (h : SegmentHead) (k : Ends) (es : List Entry) (v w : Flows) (a : Admission) (o : Option Entry) → lookup_entry (eq_ends k) es ≡ o → Some v ≡ lookup (eq_ends k) es → meeting a w ≡ met way h v
+    → seeing (Some a) (known_of (set_value (eq_ends k) (promoted (eq_ends k) es) w)) ≡ seen_between k way h (known_of es)
+see_by way h k es v w a None s found m =
+    let so = absent_entry k (eq_ends k) (λ x. ends_eq k x) es s in
+    let value = so.value in
+    absurd cc
+see_by way h k es v w a (Some e) s found m =
+    let so = found_entry k (eq_ends k) (λ x. ends_eq k x) es e s in
+    let value = so.value in
+    let one : e.1 ≡ v = cc in
+    let r = remove_entry (eq_ends k) es in
+    let goes : promoted (eq_ends k) es ≡ e ∷ r = rw s refl in
+    let at = at_found k (eq_ends k) (λ x. ends_eq k x) es so.within in
+    let front = fronted k (eq_ends k) (λ x. ends_eq k x) es e s in
+    ap (λ (x : List Entry). seeing (Some a) (known_of (set_value (eq_ends k) x w))) goes
+    ∙ ap (λ (x : List Entry). seeing (Some a) (known_of x)) (first_set e r (eq_ends k) w (entry_test (eq_ends k) es e s))
+    ∙ ap (λ (z : Meeting). seeing (Some z.admission) (known e.0 z.after ∷ known_of r)) (m ∙ ap (met way h) (sym one))
+    ∙ sym (ap (λ (x : List Entry). seen_by_first way h (known_of x)) goes)
+    ∙ ap (λ (l : List Known). seen_by_first way h l) front
+    ∙ sym (ap (λ (n : Option ℕ). seen_at n way h (known_of es)) at)
+
+pub see_is : (way : Way) (h : SegmentHead) (k : Ends) (es : List Entry) (v w : Flows) (a : Admission) → Some v ≡ lookup (eq_ends k) es → meeting a w ≡ met way h v
+    → seeing (Some a) (known_of (set_value (eq_ends k) (promoted (eq_ends k) es) w)) ≡ seen_between k way h (known_of es)
+see_is way h k es v w a found m = see_by way h k es v w a (lookup_entry (eq_ends k) es) refl found m
+
+see_sum : (k : Ends) (es : List Entry) (v w : Flows) (o : Option Entry) → lookup_entry (eq_ends k) es ≡ o → Some v ≡ lookup (eq_ends k) es → size_of w ≡ size_of v
+    → early_of (known_of (set_value (eq_ends k) (promoted (eq_ends k) es) w)) ≡ early_of (known_of es)
+see_sum k es v w None s found same =
+    let so = absent_entry k (eq_ends k) (λ x. ends_eq k x) es s in
+    let value = so.value in
+    absurd cc
+see_sum k es v w (Some e) s found same =
+    let so = found_entry k (eq_ends k) (λ x. ends_eq k x) es e s in
+    let value = so.value in
+    let one : e.1 ≡ v = cc in
+    let r = remove_entry (eq_ends k) es in
+    let goes : promoted (eq_ends k) es ≡ e ∷ r = rw s refl in
+    ap (λ (x : List Entry). early_of (known_of (set_value (eq_ends k) x w))) goes
+    ∙ ap (λ (x : List Entry). early_of (known_of x)) (first_set e r (eq_ends k) w (entry_test (eq_ends k) es e s))
+    ∙ ap (λ n. n + early_of (known_of r)) (same ∙ ap size_of (sym one))
+    ∙ so.sum
+
+-- it keeps how much all hold
+pub see_early : (way : Way) (h : SegmentHead) (k : Ends) (es : List Entry) (v w : Flows) (a : Admission) → Some v ≡ lookup (eq_ends k) es → meeting a w ≡ met way h v
+    → early_of (known_of (set_value (eq_ends k) (promoted (eq_ends k) es) w)) ≡ early_of (known_of es)
+see_early way h k es v w a found m =
+    see_sum k es v w (lookup_entry (eq_ends k) es) refl found (ap (λ (z : Meeting). size_of z.after) m ∙ met_size way h v)
+
+-- where it is not there
+none_by : (way : Way) (h : SegmentHead) (k : Ends) (es : List Entry) (o : Option Entry) → lookup_entry (eq_ends k) es ≡ o → None ≡ lookup (eq_ends k) es
+    → seeing None (known_of es) ≡ seen_between k way h (known_of es)
+none_by way h k es None s found =
+    let so = absent_entry k (eq_ends k) (λ x. ends_eq k x) es s in
+    let at = at_absent k (eq_ends k) (λ x. ends_eq k x) es so.place in
+    sym (ap (λ (n : Option ℕ). seen_at n way h (known_of es)) at)
+none_by way h k es (Some e) s found =
+    let so = found_entry k (eq_ends k) (λ x. ends_eq k x) es e s in
+    let value = so.value in
+    absurd cc
+
+pub none_is : (way : Way) (h : SegmentHead) (k : Ends) (es : List Entry) → None ≡ lookup (eq_ends k) es
+    → seeing None (known_of es) ≡ seen_between k way h (known_of es)
+none_is way h k es found = none_by way h k es (lookup_entry (eq_ends k) es) refl found
 
 -- it keeps how much all hold
 promote_sum : (k : Ends) (test : Ends → Bool) → ((e : Ends) → test e ≡ same_ends k e) → (es : List Entry) (o : Option Entry) → lookup_entry test es ≡ o → early_of (known_of (promoted test es)) ≡ early_of (known_of es)
@@ -261,10 +323,6 @@ pub last_of_few : (es : List Entry) → length es < 2 → last_first (known_of e
 last_of_few [] few = refl
 last_of_few (e ∷ []) few = refl
 last_of_few (e ∷ f ∷ es) few = absurd (omega (arith, few))
-
--- a value that is written to the first entry
-pub first_set : (e : Entry) (es : List Entry) (test : Ends → Bool) (w : Flows) → test e.0 ≡ true → set_value test (e ∷ es) w ≡ (e.0, w) ∷ es
-first_set e es test w t = ap (λ (b : Bool). cond b ((e.0, w) ∷ es) (e ∷ set_value test es w)) t
 
 pub first_lookup : (e : Entry) (es : List Entry) (test : Ends → Bool) → test e.0 ≡ true → lookup test (e ∷ es) ≡ Some e.1
 first_lookup e es test t = ap (λ (b : Bool). cond b (Some e.1) (lookup test es)) t

@@ -1,6 +1,7 @@
 -- How much a connection holds after a call.
 use Rattle.std.proofs.Common.{◌≡◌, ℕ, ◌+◌, ◌≤◌, Bool, true, false, cond, refl, sym, subst, arith}
 use Rattle.std.specs.Prelude.{IfOk, OnErr, Result, Ok, Err, Option, Some, None}
+use Rattle.cqlp_tcp_segment.specs.declared.segments.SegmentHead.{SegmentHead}
 use Rattle.cqlp_tcp_segment.specs.Segment.{Seen}
 use Rattle.cqlp_tcp_reassembly.specs.Segments.{Segment}
 use Rattle.cqlp_tcp_reassembly.proofs.Bounds.{size_acknowledgement, size_close, size_passed, size_segment}
@@ -11,7 +12,7 @@ use Rattle.cqlp_tcp_connections.specs.Ends.{other}
 use Rattle.cqlp_tcp_connections.specs.Sides as sides
 use Rattle.cqlp_tcp_connections.specs.Sides.{SideState}
 use Rattle.cqlp_tcp_connections.specs.Laws.{SharesRoom}
-use Rattle.cqlp_tcp_connections.specs.Known.{Flows, Delivering, acknowledged, answered, closed, closed_way, counted_on, or_next_as, own_of, passed as one_passed, pull_refused, pulled, side_of, size_of, taken, delivering, with_side}
+use Rattle.cqlp_tcp_connections.specs.Known.{Flows, Delivering, acknowledged, answered, begins_anew, closed, closed_way, counted_on, met, met_if, or_next_as, own_of, passed as one_passed, pull_refused, pulled, side_of, size_of, taken, delivering, with_side}
 
 with_size : (way : Way) (s : SideState) (f : Flows) (more : ℕ) → sides.size_of s ≤ more + sides.size_of (side_of way f) → size_of (with_side way s f) ≤ more + size_of f
 with_size Requests s f more h = omega (arith, h)
@@ -71,6 +72,13 @@ passed_size way f = with_less way (sides.passed (side_of way f)) f (size_passed 
 pub counted_size : (way : Way) (f : Flows) → size_of (counted_on way f) ≡ size_of f
 counted_size Requests f = refl
 counted_size Responses f = refl
+
+met_size_if : (b : Bool) (way : Way) (f : Flows) → size_of (met_if b way f).after ≡ size_of f
+met_size_if true way f = refl
+met_size_if false way f = counted_size way f
+
+pub met_size : (way : Way) (h : SegmentHead) (f : Flows) → size_of (met way h f).after ≡ size_of f
+met_size way h f = met_size_if (begins_anew way h f) way f
 
 pub pull_sized : {E : Type 0} (r : Result (Option WayStep) E) (way : Way) (g : Seen) (time : Option ℕ) (room : ℕ) (old new : Flows)
     → IfOk r (λ delivered. delivering delivered new ≡ pulled way g time room old) → OnErr r (new ≡ pull_refused way g time old) → size_of new ≤ room + size_of old

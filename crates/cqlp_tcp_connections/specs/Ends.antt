@@ -1,5 +1,8 @@
 -- The ends of connections, and which way a segment goes between them.
-use Rattle.std.specs.Prelude.{ℕ, Bool, false, ◌==◌, ◌&&◌, List, bytes_eq, Option, Some, None, if◌then◌else◌}
+use Rattle.std.specs.Prelude.{ℕ, ◌+◌, ◌*◌, Bool, false, ◌==◌, ◌&&◌, List, ◌++◌, bytes_eq, Option, Some, None, if◌then◌else◌}
+use Rattle.std.specs.Hash as fed
+use Rattle.std.specs.Hash.{HashWrites}
+use Rattle.std.specs.Int.{w32, w128, from_be_bytes}
 use Rattle.std.specs.List.{list_any}
 use Rattle.cqlp_tcp_segment.specs.declared.addresses.Address.{Address}
 use Rattle.cqlp_tcp_segment.specs.declared.addresses.Address.TheVariants.{V4, V6}
@@ -56,3 +59,18 @@ way_between e h =
     if same_ends (ends_of Requests h) e then Some Requests
     else if same_ends (ends_of Responses h) e then Some Responses
     else None
+
+-- ---- what ends feed a hasher: of each an IPv4 address with its port as one number, or an IPv6 address and then the port
+
+abbrev pub number_of : (octets : List ℕ) → (port : ℕ) → ℕ
+number_of octets port = from_be_bytes w32 octets * 65536 + port
+
+abbrev pub fed_address : (port : ℕ) → Address → HashWrites
+fed_address port (V4 octets) = fed.u64 (number_of octets port)
+fed_address port (V6 octets) = fed.u128 (from_be_bytes w128 octets) ++ fed.u16 port
+
+abbrev pub fed_end : Endpoint → HashWrites
+fed_end e = fed_address e.port e.address
+
+abbrev pub fed_ends : Ends → HashWrites
+fed_ends e = fed_end e.client ++ fed_end e.node

@@ -11,6 +11,8 @@ use Rattle.cqlp_tcp_connections.specs.declared.ends.Ends.{Ends}
 use Rattle.cqlp_tcp_connections.specs.declared.ends.Way.{Way}
 use Rattle.cqlp_tcp_connections.specs.declared.ends.Way.TheVariants.{Requests, Responses}
 use Rattle.cqlp_tcp_connections.specs.declared.side.SideStep.{SideStep}
+use Rattle.cqlp_tcp_connections.specs.declared.delivery.Admission.{Admission}
+use Rattle.cqlp_tcp_connections.specs.declared.delivery.Admission.TheVariants.{Taken, Crowded}
 use Rattle.cqlp_tcp_connections.specs.declared.delivery.WayStep.{WayStep}
 use Rattle.cqlp_tcp_connections.specs.declared.totals.Begin.{Begin}
 use Rattle.cqlp_tcp_connections.specs.declared.totals.Begin.TheVariants as begin
@@ -93,6 +95,22 @@ may_begin own other sequence = may_begin_as own.begin own other sequence
 abbrev pub begins_anew : Way → SegmentHead → Flows → Bool
 begins_anew way h k =
     h.flags.syn && not (may_begin (side_of way k).totals (side_of (other way) k).totals h.sequence)
+
+-- what a segment that goes this way is to it, and the connection after it
+pub record Meeting : Type 0 where
+  pub admission : Admission
+  pub after : Flows
+
+abbrev pub meeting : Admission → Flows → Meeting
+meeting a k = record { admission = a; after = k }
+
+-- It is counted, unless it begins another connection.
+abbrev pub met_if : (is_other : Bool) → Way → Flows → Meeting
+met_if true way k = meeting (Crowded k.number false) k
+met_if false way k = meeting (Taken k.number way false) (counted_on way k)
+
+abbrev pub met : Way → SegmentHead → Flows → Meeting
+met way h k = met_if (begins_anew way h k) way k
 
 -- ---- what is delivered of it
 

@@ -1,5 +1,6 @@
 pub mod Limits
 pub mod Ends
+pub mod Hashed
 pub mod Totals
 pub mod Ports
 pub mod Sides

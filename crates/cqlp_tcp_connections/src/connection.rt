@@ -6,7 +6,7 @@ ghost use Rattle.cqlp_tcp_reassembly.specs.Streams.{held};
 ghost use Rattle.cqlp_tcp_segment.specs.Segment.{seen};
 ghost use Rattle.cqlp_tcp_connections.specs.Known.{IsStepWithin, control_of, deliver};
 
-use crate::delivery::WayStep;
+use crate::delivery::{Admission, WayStep};
 use crate::ends::{Ends, Way};
 use crate::side::{Side, SideStep};
 use crate::totals::{Begin, ConnectionTotals, DirectionTotals, End};
@@ -32,7 +32,8 @@ impl<A: Allocator> Model for Connection<A> {
 }
 
 impl<A: Allocator> Connection<A> {
-    ghost use Rattle.cqlp_tcp_connections.specs.Known.{acknowledged, answered, begins_anew, closed, closed_way, counted_on, known, new_flows, passed};
+    ghost use Rattle.cqlp_tcp_connections.specs.Known.{acknowledged, answered, begins_anew, closed, closed_way, counted_on, known, met, meeting, new_flows};
+    ghost use Rattle.cqlp_tcp_connections.specs.Known.{passed};
     ghost use Rattle.cqlp_tcp_connections.specs.Known.{pull_refused, pulled, refused, side_of, size_of, taken, delivering, totals_of};
 
     /// A connection of which nothing was reported. It takes no memory.
@@ -93,6 +94,25 @@ impl<A: Allocator> Connection<A> {
             node: ends.node,
             requests: self.requests.totals(),
             responses: self.responses.totals(),
+        }
+    }
+
+    /// What a segment that goes this way is to the table: it is counted, unless it begins another connection between the same ends.
+    pub(crate) fn see(&mut self, way: Way, head: &SegmentHead) -> Admission
+        ensures { meeting result self.new ≡ met way head.now self.old }
+    {
+        let number = self.number;
+        if self.begins_anew(way, head) {
+            return Admission::Crowded {
+                number,
+                is_full: false,
+            };
+        }
+        self.count_segment(way);
+        Admission::Taken {
+            number,
+            way,
+            is_new: false,
         }
     }
 

@@ -6,10 +6,10 @@ ghost use Rattle.cqlp_tcp_segment.specs.Segment.{seen};
 ghost use Rattle.cqlp_tcp_connections.specs.Tables.{IsDeliveryWithin};
 
 use crate::connection::Connection;
-use crate::delivery::{Delivery, between};
+use crate::delivery::{Admission, Delivery, between};
 use crate::ends::{Ends, Way};
 use crate::limits::ConnectionLimits;
-use cqlp_tcp_segment::Segment;
+use cqlp_tcp_segment::{Segment, SegmentHead};
 use lru::{DefaultHasher, LruCache};
 use std::alloc::{AllocError, Allocator};
 use std::marker::Model;
@@ -39,7 +39,7 @@ impl<A: Allocator> Model for Pool<A> {
 impl<A: Allocator> Pool<A> {
     ghost use Rattle.cqlp_tcp_connections.specs.Known.{closed, counted_on, known, new_flows, passed, pull_refused};
     ghost use Rattle.cqlp_tcp_connections.specs.Tables.{early_of, first_becomes, first_delivering, first_delivers, found_in, held_of, last_first, room_in};
-    ghost use Rattle.cqlp_tcp_connections.specs.Pools.{bringing, brought, first_of, pool, pulled_first, with_known};
+    ghost use Rattle.cqlp_tcp_connections.specs.Pools.{first_of, pool, pulled_first, seeing, seen_between, with_known};
 
     /// A pool without connections. It takes memory as they come.
     pub(crate) fn new(alloc: A, limits: ConnectionLimits) -> Result<Self, AllocError>
@@ -82,12 +82,15 @@ impl<A: Allocator> Pool<A> {
         self.early
     }
 
-    /// Brings the connection between these ends to the front, and says whether it is there.
-    pub(crate) fn bring(&mut self, ends: &Ends) -> bool
-        ensures brought { bringing result self.new.known ≡ brought ends.now self.old.known }
+    /// Brings the connection between these ends to the front, if it is there, and says what a segment that goes this way is to it.
+    pub(crate) fn see(&mut self, ends: &Ends, way: Way, head: &SegmentHead) -> Option<Admission>
+        ensures seen { seeing result self.new.known ≡ seen_between ends.now way head.now self.old.known }
         ensures limits { self.new.limits ≡ self.old.limits }
     {
-        self.cache.promote(ends)
+        let Some(connection) = self.cache.get_mut(ends) else {
+            return None;
+        };
+        Some(connection.see(way, head))
     }
 
     /// Brings the last one to the front, which was silent longest.
@@ -134,19 +137,6 @@ impl<A: Allocator> Pool<A> {
         if let Some((_, first)) = self.cache.pop_mru() {
             self.early -= first.size();
         }
-    }
-
-    /// Counts a segment that goes this way of the first one.
-    pub(crate) fn count_segment(&mut self, way: Way)
-        ensures { self.new ≡ with_known (first_becomes (counted_on way) self.old.known) self.old }
-    {
-        let Some(ends) = self.first_ends() else {
-            return;
-        };
-        let Some(first) = self.cache.peek_mut(&ends) else {
-            return;
-        };
-        first.count_segment(way);
     }
 
     /// The next report of a segment that goes this way of the first one.

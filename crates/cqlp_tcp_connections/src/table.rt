@@ -47,7 +47,7 @@ impl<A: Allocator> Connections<A> {
     ghost use Rattle.cqlp_tcp_connections.specs.Ends.{ends_of, first_way};
     ghost use Rattle.cqlp_tcp_connections.specs.Ports.{busiest};
     ghost use Rattle.cqlp_tcp_connections.specs.Tables.{begun, crowded, departing, early_of, finished, found_in, gone_by, held_of, left, new_table};
-    ghost use Rattle.cqlp_tcp_connections.specs.Tables.{passed, pulled, pulling, refused, seen_first, taken, taking, way_of_first};
+    ghost use Rattle.cqlp_tcp_connections.specs.Tables.{passed, pulled, pulling, refused, taken, taking, way_of_first};
 
     /// A table without connections, for nodes that listen on one of these ports. It takes 512 KiB, to count segments by port.
     ///
@@ -110,12 +110,12 @@ impl<A: Allocator> Connections<A> {
             self.go_by(head);
             return Ok(Admission::Foreign);
         };
-        if self.pool.bring(&ends_of(way, head)) {
-            return Ok(self.see(way, head));
+        if let Some(admission) = self.pool.see(&ends_of(way, head), way, head) {
+            return Ok(admission);
         }
         let turned = way.other();
-        if self.pool.bring(&ends_of(turned, head)) {
-            return Ok(self.see(turned, head));
+        if let Some(admission) = self.pool.see(&ends_of(turned, head), turned, head) {
+            return Ok(admission);
         }
         if self.pool.is_full() {
             Ok(self.crowd())
@@ -259,28 +259,6 @@ impl<A: Allocator> Connections<A> {
     {
         self.counts.foreign = self.counts.foreign.saturating_add(1);
         self.foreign.count(head);
-    }
-
-    /// Takes a segment of the first connection, which goes this way.
-    fn see(&mut self, way: Way, head: &SegmentHead) -> Admission
-        ensures { taking result self.new ≡ seen_first way head.now self.old }
-    {
-        let Some((_, first)) = self.pool.first() else {
-            return Admission::Foreign;
-        };
-        let number = first.number();
-        if first.begins_anew(way, head) {
-            return Admission::Crowded {
-                number,
-                is_full: false,
-            };
-        }
-        self.pool.count_segment(way);
-        Admission::Taken {
-            number,
-            way,
-            is_new: false,
-        }
     }
 
     /// Begins a connection with a segment that goes this way.

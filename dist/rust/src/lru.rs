@@ -38,13 +38,11 @@ impl Hasher for Hashed {
     }
 }
 
-/// The keyed hash of what a key hashes of itself, which are octets of addresses, each with its port behind it: each piece is folded in by a 128-bit
-/// product with the map's own random number.
+/// The keyed hash of what a key hashes of itself, which are numbers: each piece of at most 64 bits is folded in by a 128-bit product with the map's own
+/// random number.
 struct Folded {
     state: u64,
     factor: u64,
-    /// The first octets of the address, which are folded in with its port.
-    four: u32,
 }
 
 impl Folded {
@@ -62,25 +60,24 @@ impl Hasher for Folded {
     }
 
     #[inline]
-    fn write(&mut self, bytes: &[u8]) {
-        let mut fours = bytes.chunks_exact(4).map(|four| u32::from_ne_bytes([four[0], four[1], four[2], four[3]]));
-        self.four = fours.next().unwrap_or_default();
-        fours.for_each(|four| self.fold(four.into()));
-    }
-
-    #[inline]
     fn write_u16(&mut self, n: u16) {
-        self.fold(u64::from(self.four) << 16 | u64::from(n));
-        self.four = 0;
+        self.fold(n.into());
     }
 
-    /// Which of its kinds an address is: those of another kind have another number of pieces.
     #[inline]
-    fn write_isize(&mut self, _: isize) {}
+    fn write_u64(&mut self, n: u64) {
+        self.fold(n);
+    }
 
-    /// How long its octets are, which its kind says.
     #[inline]
-    fn write_usize(&mut self, _: usize) {}
+    fn write_u128(&mut self, n: u128) {
+        self.fold(n as u64);
+        self.fold((n >> 64) as u64);
+    }
+
+    fn write(&mut self, _: &[u8]) {
+        unreachable!("a key hashes numbers")
+    }
 }
 
 pub struct LruCache<K, V, S, A> {
@@ -131,7 +128,7 @@ impl<K: Copy + Eq + Hash, V, S, A: Allocator> LruCache<K, V, S, A> {
 
     #[inline]
     fn hash(&self, key: &K) -> u64 {
-        let mut hasher = Folded { state: self.state, factor: self.factor, four: 0 };
+        let mut hasher = Folded { state: self.state, factor: self.factor };
         key.hash(&mut hasher);
         hasher.finish()
     }
@@ -159,12 +156,17 @@ impl<K: Copy + Eq + Hash, V, S, A: Allocator> LruCache<K, V, S, A> {
 
     /// Brings an entry to the front, and says whether it is there.
     pub fn promote(&mut self, key: &K) -> bool {
-        let Some(at) = self.place(key) else { return false };
+        self.get_mut(key).is_some()
+    }
+
+    /// Brings an entry to the front, and gives its value.
+    pub fn get_mut(&mut self, key: &K) -> Option<&mut V> {
+        let at = self.place(key)?;
         if at != self.first {
             self.unlink(at);
             self.link(at);
         }
-        true
+        self.entries[at as usize].pair.as_deref_mut().map(|(_, value)| value)
     }
 
     /// Puts an entry before the others, whose key is not there, and there are fewer than the limit, as is proved at each call.

@@ -2,7 +2,7 @@
 //! One connection.
 
 use crate::kit_host::prelude::{AllocGlobal, Clone, ToCopy};
-use crate::cqlp_tcp_connections::delivery::WayStep;
+use crate::cqlp_tcp_connections::delivery::{Admission, WayStep};
 use crate::cqlp_tcp_connections::ends::{Ends, Way};
 use crate::cqlp_tcp_connections::side::{Side, SideStep};
 use crate::cqlp_tcp_connections::totals::{Begin, ConnectionTotals, DirectionTotals, End};
@@ -64,6 +64,23 @@ impl<A: Allocator> Connection<A> {
             node: ends.node,
             requests: self.requests.totals(),
             responses: self.responses.totals(),
+        }
+    }
+
+    /// What a segment that goes this way is to the table: it is counted, unless it begins another connection between the same ends.
+    pub(crate) fn see(&mut self, way: Way, head: &SegmentHead) -> Admission {
+        let number = self.number;
+        if self.begins_anew(way, head) {
+            return Admission::Crowded {
+                number,
+                is_full: false,
+            };
+        }
+        self.count_segment(way);
+        Admission::Taken {
+            number,
+            way,
+            is_new: false,
         }
     }
 

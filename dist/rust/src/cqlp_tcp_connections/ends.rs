@@ -1,7 +1,8 @@
 // Written by dist/erase from crates/cqlp_tcp_connections/src/ends.rt.
 //! The ends of connections, and which way a segment goes between them.
 
-use crate::cqlp_tcp_segment::{Endpoint, SegmentHead};
+use crate::cqlp_tcp_segment::{Address, Endpoint, SegmentHead};
+use std::hash::{Hash, Hasher};
 
 /// The port on which nodes of Apache Cassandra listen for CQL.
 pub const DEFAULT_PORT: u16 = 9042;
@@ -16,12 +17,39 @@ pub enum Way {
 }
 
 /// The ends of a connection.
-#[derive(Clone, Copy, Debug, PartialEq, Eq, Hash)]
+#[derive(Clone, Copy, Debug, PartialEq, Eq)]
 pub struct Ends {
     /// From which requests come.
     pub client: Endpoint,
     /// From which responses come; its port is asked for.
     pub node: Endpoint,
+}
+
+/// Feeds the hasher one number for each end, or two of IPv6. A derived one feeds it each octet by itself.
+impl Hash for Ends {
+    #[inline]
+    fn hash<H: Hasher>(&self, state: &mut H) {
+        feed_end(&self.client, state);
+        feed_end(&self.node, state);
+    }
+}
+
+/// Feeds an end to a hasher.
+#[inline]
+fn feed_end<H: Hasher>(end: &Endpoint, state: &mut H) {
+    match end.address {
+        Address::V4(octets) => state.write_u64(number_of(octets, end.port)),
+        Address::V6(octets) => {
+            state.write_u128(u128::from_be_bytes(octets));
+            state.write_u16(end.port);
+        }
+    }
+}
+
+/// An IPv4 address and a port as one number.
+#[inline]
+fn number_of(octets: [u8; 4], port: u16) -> u64 {
+    u64::from(u32::from_be_bytes(octets)) * 65536 + u64::from(port)
 }
 
 /// The ends of a segment that goes this way.

@@ -3,10 +3,10 @@
 
 use crate::kit_host::prelude::{AllocGlobal, Clone, ToCopy};
 use crate::cqlp_tcp_connections::connection::Connection;
-use crate::cqlp_tcp_connections::delivery::{Delivery, between};
+use crate::cqlp_tcp_connections::delivery::{Admission, Delivery, between};
 use crate::cqlp_tcp_connections::ends::{Ends, Way};
 use crate::cqlp_tcp_connections::limits::ConnectionLimits;
-use crate::cqlp_tcp_segment::Segment;
+use crate::cqlp_tcp_segment::{Segment, SegmentHead};
 use crate::lru::{DefaultHasher, LruCache};
 use crate::kit_std::alloc::{AllocError, Allocator};
 use core::num::NonZeroUsize;
@@ -51,9 +51,12 @@ impl<A: Allocator> Pool<A> {
         self.early
     }
 
-    /// Brings the connection between these ends to the front, and says whether it is there.
-    pub(crate) fn bring(&mut self, ends: &Ends) -> bool {
-        self.cache.promote(ends)
+    /// Brings the connection between these ends to the front, if it is there, and says what a segment that goes this way is to it.
+    pub(crate) fn see(&mut self, ends: &Ends, way: Way, head: &SegmentHead) -> Option<Admission> {
+        let Some(connection) = self.cache.get_mut(ends) else {
+            return None;
+        };
+        Some(connection.see(way, head))
     }
 
     /// Brings the last one to the front, which was silent longest.
@@ -90,17 +93,6 @@ impl<A: Allocator> Pool<A> {
         if let Some((_, first)) = self.cache.pop_mru() {
             self.early -= first.size();
         }
-    }
-
-    /// Counts a segment that goes this way of the first one.
-    pub(crate) fn count_segment(&mut self, way: Way) {
-        let Some(ends) = self.first_ends() else {
-            return;
-        };
-        let Some(first) = self.cache.peek_mut(&ends) else {
-            return;
-        };
-        first.count_segment(way);
     }
 
     /// The next report of a segment that goes this way of the first one.

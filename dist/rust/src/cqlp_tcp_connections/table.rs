@@ -85,12 +85,12 @@ impl<A: Allocator> Connections<A> {
             self.go_by(head);
             return Ok(Admission::Foreign);
         };
-        if self.pool.bring(&ends_of(way, head)) {
-            return Ok(self.see(way, head));
+        if let Some(admission) = self.pool.see(&ends_of(way, head), way, head) {
+            return Ok(admission);
         }
         let turned = way.other();
-        if self.pool.bring(&ends_of(turned, head)) {
-            return Ok(self.see(turned, head));
+        if let Some(admission) = self.pool.see(&ends_of(turned, head), turned, head) {
+            return Ok(admission);
         }
         if self.pool.is_full() {
             Ok(self.crowd())
@@ -205,26 +205,6 @@ impl<A: Allocator> Connections<A> {
     fn go_by(&mut self, head: &SegmentHead) {
         self.counts.foreign = self.counts.foreign.saturating_add(1);
         self.foreign.count(head);
-    }
-
-    /// Takes a segment of the first connection, which goes this way.
-    fn see(&mut self, way: Way, head: &SegmentHead) -> Admission {
-        let Some((_, first)) = self.pool.first() else {
-            return Admission::Foreign;
-        };
-        let number = first.number();
-        if first.begins_anew(way, head) {
-            return Admission::Crowded {
-                number,
-                is_full: false,
-            };
-        }
-        self.pool.count_segment(way);
-        Admission::Taken {
-            number,
-            way,
-            is_new: false,
-        }
     }
 
     /// Begins a connection with a segment that goes this way.
