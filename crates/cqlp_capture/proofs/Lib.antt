@@ -7,6 +7,7 @@ pub mod Whole
 pub mod Packets
 pub mod Moving
 pub mod Advancing
+pub mod Lying
 pub mod Calls
 pub mod OneAnswer
 pub mod Cuts

@@ -316,6 +316,22 @@ read_enhanced limit number offset b bytes (Some i) = read_by_unit limit number o
 abbrev pub read_enhanced_body : (limit : ℕ) → List KnownInterface → (number offset : ℕ) → Block → List ℕ → Result Emission CaptureRefusal
 read_enhanced_body limit known number offset b bytes = read_enhanced limit number offset b bytes (slice_get known number)
 
+-- the enhanced packet that has these numbers, if its interface is known and its time can be read
+abbrev pub enhanced_at : (number : ℕ) → ByteOrder → List ℕ → KnownInterface → Option ℕ → Option PacketHead
+enhanced_at number o bytes i None = None
+enhanced_at number o bytes i (Some time) = Some (enhanced_of number o i time bytes)
+
+abbrev pub enhanced_by : (number : ℕ) → ByteOrder → List ℕ → KnownInterface → Option ℕ → Option PacketHead
+enhanced_by number o bytes i None = None
+enhanced_by number o bytes i (Some unit) = enhanced_at number o bytes i (time_of unit i.offset (units_of o bytes))
+
+abbrev pub enhanced_on : (number : ℕ) → ByteOrder → List ℕ → Option KnownInterface → Option PacketHead
+enhanced_on number o bytes None = None
+enhanced_on number o bytes (Some i) = enhanced_by number o bytes i i.unit
+
+abbrev pub enhanced_in : List KnownInterface → ByteOrder → List ℕ → Option PacketHead
+enhanced_in known o bytes = enhanced_on (number_32 o 0 bytes) o bytes (slice_get known (number_32 o 0 bytes))
+
 -- ---- the simple packet block (section 4.4)
 
 -- As many bytes of it were captured as it had, but no more than its interface says, where that says so, and than its block has.

@@ -2,7 +2,7 @@
 
 ghost use Rattle.std.specs.Prelude.{◌≡◌, ◌+◌, ◌-◌, ◌≤◌, ◌^◌, length, min};
 ghost use Rattle.cqlp_capture.specs.Numbers.{nanoseconds, unit_of_fraction};
-ghost use Rattle.cqlp_capture.specs.Records.{rest_of, skipped_record, read_file_head, read_magic, read_record_head};
+ghost use Rattle.cqlp_capture.specs.Records.{packet_of, rest_of, skipped_record, read_file_head, read_magic, read_record_head};
 ghost use Rattle.cqlp_capture.specs.Emission.{goes_on};
 
 use crate::emission::{read_next, refuse};
@@ -71,7 +71,6 @@ pub(crate) fn read_file_head(form: FileForm, bytes: &[u8]) -> Result<Emission, C
 }
 
 /// What the header of a record says that begins at this offset. Section 5 of draft-ietf-opsawg-pcap.
-#[inline(always)]
 pub(crate) fn read_record_head(
     limit: u32,
     offset: u64,
@@ -85,28 +84,36 @@ pub(crate) fn read_record_head(
     if offset > FARTHEST {
         return refuse(offset, CaptureReason::FileTooLong);
     }
-    let form = record_form.form;
-    let order = form.order;
-    let captured = order.read_u32(bytes, 8);
-    if captured > limit {
-        return skip_record(offset, captured, record_form);
+    let packet = read_packet(record_form, bytes);
+    if packet.captured > limit {
+        return skip_record(offset, packet.captured, record_form);
     }
-    let packet = PacketHead {
-        interface: 0,
-        link: record_form.link,
-        time: Some(time_of(form, order.read_u32(bytes, 0), order.read_u32(bytes, 4))),
-        captured,
-        original: order.read_u32(bytes, 12),
-    };
     Ok(Emission {
         at: offset,
         what: Some(EventOutline::Packet(packet)),
         place: Place {
             offset: offset + 16,
-            stage: Stage::Data(record_form, captured),
+            stage: Stage::Data(record_form, packet.captured),
         },
         change: TableChange::Keep,
     })
+}
+
+/// The packet of the record that has this header.
+#[inline]
+pub(crate) fn read_packet(record_form: RecordForm, bytes: &[u8]) -> PacketHead
+    requires { length bytes.now ≡ 16 }
+    ensures { result ≡ packet_of record_form bytes.now }
+{
+    let form = record_form.form;
+    let order = form.order;
+    PacketHead {
+        interface: 0,
+        link: record_form.link,
+        time: Some(time_of(form, order.read_u32(bytes, 0), order.read_u32(bytes, 4))),
+        captured: order.read_u32(bytes, 8),
+        original: order.read_u32(bytes, 12),
+    }
 }
 
 /// That a packet is too long, of which so many bytes were captured.

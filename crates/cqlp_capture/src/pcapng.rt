@@ -2,7 +2,7 @@
 
 ghost use Rattle.std.specs.Prelude.{◌≡◌, ◌+◌, ◌≤◌, ◌<◌, ◌^◌, length};
 ghost use Rattle.cqlp_capture.specs.Numbers.{padded, unit_of};
-ghost use Rattle.cqlp_capture.specs.Blocks.{IsInBlock, captured_of, described, either_length, room_of, skipped_option, time_of};
+ghost use Rattle.cqlp_capture.specs.Blocks.{IsInBlock, captured_of, described, either_length, enhanced_in, enhanced_of, room_of, skipped_option, time_of};
 ghost use Rattle.cqlp_capture.specs.Blocks.{read_block, read_block_end, read_block_head, read_data, read_enhanced_body};
 ghost use Rattle.cqlp_capture.specs.Blocks.{read_interface_body, read_option, read_option_head, read_packet, read_section};
 ghost use Rattle.cqlp_capture.specs.Blocks.{read_section_body, read_section_length, read_simple_body, read_time_offset, read_time_unit, read_within};
@@ -339,14 +339,47 @@ pub(crate) fn read_enhanced_body(
     let Some(time) = captured_time(unit, interface.offset, units) else {
         return skip(offset + 20, block, SkipReason::TimeTooLarge);
     };
-    let packet = PacketHead {
+    let packet = enhanced_packet(number, order, interface, time, bytes);
+    read_within(limit, offset + 20, block, packet)
+}
+
+/// The enhanced packet that has these numbers, if its interface is known and its time can be read.
+#[inline]
+pub(crate) fn read_enhanced(
+    known: &[KnownInterface],
+    order: ByteOrder,
+    bytes: &[u8],
+) -> Option<PacketHead>
+    requires { length bytes.now ≡ 20 }
+    ensures { result ≡ enhanced_in known.now order bytes.now }
+{
+    let number = order.read_u32(bytes, 0);
+    let interface = known.get(number as usize).copied()?;
+    let unit = interface.unit?;
+    let units = order.read_u32(bytes, 4) as u64 * 0x1_0000_0000 + order.read_u32(bytes, 8) as u64;
+    let time = captured_time(unit, interface.offset, units)?;
+    Some(enhanced_packet(number, order, interface, time, bytes))
+}
+
+/// The packet that has these numbers, whose interface has this number, and whose time is so many nanoseconds.
+#[inline]
+fn enhanced_packet(
+    number: u32,
+    order: ByteOrder,
+    interface: KnownInterface,
+    time: u64,
+    bytes: &[u8],
+) -> PacketHead
+    requires { length bytes.now ≡ 20 }
+    ensures { result ≡ enhanced_of number order interface time bytes.now }
+{
+    PacketHead {
         interface: number,
         link: interface.link,
         time: Some(time),
         captured: order.read_u32(bytes, 12),
         original: order.read_u32(bytes, 16),
-    };
-    read_within(limit, offset + 20, block, packet)
+    }
 }
 
 /// That a packet begins, whose bytes are at this offset, if they lie in the block and the limit allows as many.
@@ -371,7 +404,7 @@ fn read_within(
 
 /// How many bytes a block has from this offset on to its second length.
 #[inline]
-fn room_after(block: Block, offset: u64) -> u64
+pub(crate) fn room_after(block: Block, offset: u64) -> u64
     requires { IsInBlock block offset 0 }
     ensures { result ≡ room_of block offset }
 {

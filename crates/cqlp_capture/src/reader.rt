@@ -4,12 +4,15 @@ ghost use Rattle.std.specs.Prelude.{◌≡◌, ◌↔◌, false, drop, IfOk, IsE
 ghost use Rattle.std.specs.Borrow.{sem};
 ghost use Rattle.cqlp_capture.specs.Limits.{is_in_range};
 
-use crate::block::Block;
+use crate::block::{Block, may_have_length};
 use crate::event::{CaptureEnd, CaptureEvent, CaptureStep, EventOutline};
+use crate::file::ByteOrder;
 use crate::gathered::{BytesPlace, GatheredBytes};
 use crate::interfaces::InterfaceTable;
 use crate::limits::CaptureLimits;
-use crate::place::{Place, Stage};
+use crate::pcap::read_packet;
+use crate::pcapng::{read_enhanced, room_after};
+use crate::place::{FARTHEST, Place, RecordForm, Stage};
 use crate::refusal::{CaptureRefusal, NewReaderError};
 use std::alloc::{Allocator, Global};
 use std::marker::Model;
@@ -113,7 +116,7 @@ impl<A: Allocator + Clone> CaptureReader<A> {
 }
 
 impl<A: Allocator> CaptureReader<A> {
-    ghost use Rattle.cqlp_capture.specs.declared.place.Stage.TheVariants.{Pass};
+    ghost use Rattle.cqlp_capture.specs.declared.place.Stage.TheVariants.{BlockData, BlockEnd, BlockHead, Data, EnhancedBody, Pass, RecordHead};
     ghost use Rattle.cqlp_capture.specs.Lending.{LeavesAnswer};
     ghost use Rattle.cqlp_capture.specs.Gathering.{LieThere, bytes_at};
     ghost use Rattle.cqlp_capture.specs.Reading.{event_with};
@@ -213,31 +216,206 @@ impl<A: Allocator> CaptureReader<A> {
         }
     }
 
-    /// One step, or as many as the input has bytes of those that are passed over. The two steps of a pcap file's packet are compiled
-    /// each for itself.
+    /// One step, or as many as the input has bytes of those that are passed over.
     #[inline]
     fn take_step(&mut self, input: &[u8]) -> StepTaken
         requires { self.old.refusal ≡ None }
         ensures { TakesStep self.old input.now result self.new }
     {
         match self.place.stage {
-            Stage::RecordHead(_) => self.take_bytes(input),
-            Stage::Data(..) => self.take_bytes(input),
+            Stage::RecordHead(form) => self.take_record_head(form, input),
+            Stage::Data(form, size) => self.take_data(form, size, input),
+            Stage::BlockHead(order) => self.take_block_head(order, input),
+            Stage::EnhancedBody(block) => self.take_enhanced_body(block, input),
+            Stage::BlockData(block, size) => self.take_block_data(block, size, input),
             Stage::Pass(block, until) => self.pass(block, until, input),
-            _ => self.take_rare(input),
+            Stage::BlockEnd(block) => self.take_block_end(block, input),
+            _ => {
+                // As in `take_rare`. Both call it, so that it stays out of line.
+                let step = self.take_bytes(input);
+                step
+            }
         }
     }
 
-    /// The same of the steps that are rare, out of line.
+    /// The header of a record. Where it lies whole in the input, and its packet is within the limit, nothing is gathered.
+    #[inline]
+    fn take_record_head(&mut self, form: RecordForm, input: &[u8]) -> StepTaken
+        requires here { self.old.spot.place.stage ≡ RecordHead form }
+        requires unrefused { self.old.refusal ≡ None }
+        ensures { TakesStep self.old input.now result self.new }
+    {
+        let offset = self.place.offset;
+        if self.gathered.pending() != 0 || input.len() < 16 || offset > FARTHEST {
+            return self.take_rare(input);
+        }
+        let packet = read_packet(form, &input[..16]);
+        if packet.captured > self.limits.packet {
+            return self.take_rare(input);
+        }
+        self.gathered.clear();
+        self.place = Place {
+            offset: offset + 16,
+            stage: Stage::Data(form, packet.captured),
+        };
+        StepTaken::Event {
+            at: offset,
+            used: 16,
+            what: EventOutline::Packet(packet),
+            lies: BytesPlace::InInput { len: 16 },
+        }
+    }
+
+    /// The bytes of a record's packet. Where they lie whole in the input, nothing is gathered.
+    #[inline]
+    fn take_data(&mut self, form: RecordForm, size: u32, input: &[u8]) -> StepTaken
+        requires here { self.old.spot.place.stage ≡ Data form size }
+        requires unrefused { self.old.refusal ≡ None }
+        ensures { TakesStep self.old input.now result self.new }
+    {
+        let used = size as usize;
+        if self.gathered.pending() != 0 || input.len() < used {
+            return self.take_rare(input);
+        }
+        let offset = self.place.offset;
+        self.gathered.clear();
+        self.place = Place {
+            offset: offset + size as u64,
+            stage: Stage::RecordHead(form),
+        };
+        StepTaken::Event {
+            at: offset,
+            used,
+            what: EventOutline::Data,
+            lies: BytesPlace::InInput { len: used },
+        }
+    }
+
+    /// The type and the length of a block. Where they lie whole in the input, and are those of an enhanced packet, which has the type 6 and at
+    /// least 32 bytes, nothing is gathered.
+    #[inline]
+    fn take_block_head(&mut self, order: ByteOrder, input: &[u8]) -> StepTaken
+        requires here { self.old.spot.place.stage ≡ BlockHead order }
+        requires unrefused { self.old.refusal ≡ None }
+        ensures { TakesStep self.old input.now result self.new }
+    {
+        let start = self.place.offset;
+        if self.gathered.pending() != 0 || input.len() < 8 || start > FARTHEST {
+            return self.take_rare(input);
+        }
+        let bytes = &input[..8];
+        let length = order.read_u32(bytes, 4);
+        if order.read_u32(bytes, 0) != 6 || !may_have_length(32, length) {
+            return self.take_rare(input);
+        }
+        self.gathered.clear();
+        self.place = Place {
+            offset: start + 8,
+            stage: Stage::EnhancedBody(Block {
+                order,
+                start,
+                length,
+                interface: None,
+            }),
+        };
+        StepTaken::Passed { used: 8 }
+    }
+
+    /// The numbers of an enhanced packet. Where they lie whole in the input, and the packet can be read, nothing is gathered.
+    #[inline]
+    fn take_enhanced_body(&mut self, block: Block, input: &[u8]) -> StepTaken
+        requires here { self.old.spot.place.stage ≡ EnhancedBody block }
+        requires unrefused { self.old.refusal ≡ None }
+        ensures { TakesStep self.old input.now result self.new }
+    {
+        if self.gathered.pending() != 0 || input.len() < 20 {
+            return self.take_rare(input);
+        }
+        let Some(packet) = read_enhanced(self.interfaces.known(), block.order, &input[..20]) else {
+            return self.take_rare(input);
+        };
+        let offset = self.place.offset + 20;
+        if packet.captured as u64 > room_after(block, offset)
+            || packet.captured > self.limits.packet
+        {
+            return self.take_rare(input);
+        }
+        self.gathered.clear();
+        self.place = Place {
+            offset,
+            stage: Stage::BlockData(block, packet.captured),
+        };
+        StepTaken::Event {
+            at: block.start,
+            used: 20,
+            what: EventOutline::Packet(packet),
+            lies: BytesPlace::InInput { len: 20 },
+        }
+    }
+
+    /// The bytes of a block's packet. Where they lie whole in the input, nothing is gathered.
+    #[inline]
+    fn take_block_data(&mut self, block: Block, size: u32, input: &[u8]) -> StepTaken
+        requires here { self.old.spot.place.stage ≡ BlockData block size }
+        requires unrefused { self.old.refusal ≡ None }
+        ensures { TakesStep self.old input.now result self.new }
+    {
+        let used = size as usize;
+        if self.gathered.pending() != 0 || input.len() < used {
+            return self.take_rare(input);
+        }
+        let at = self.place.offset;
+        let end = at + size as u64;
+        self.gathered.clear();
+        self.place = Place {
+            offset: end,
+            stage: block.passing(end, block.end()),
+        };
+        StepTaken::Event {
+            at,
+            used,
+            what: EventOutline::Data,
+            lies: BytesPlace::InInput { len: used },
+        }
+    }
+
+    /// The second length of a block. Where it lies whole in the input and equals the first, and the block is about no interface, nothing is
+    /// gathered.
+    #[inline]
+    fn take_block_end(&mut self, block: Block, input: &[u8]) -> StepTaken
+        requires here { self.old.spot.place.stage ≡ BlockEnd block }
+        requires unrefused { self.old.refusal ≡ None }
+        ensures { TakesStep self.old input.now result self.new }
+    {
+        if self.gathered.pending() != 0 || input.len() < 4 {
+            return self.take_rare(input);
+        }
+        let None = block.interface else {
+            return self.take_rare(input);
+        };
+        if block.order.read_u32(&input[..4], 0) != block.length {
+            return self.take_rare(input);
+        }
+        self.gathered.clear();
+        self.place = Place {
+            offset: self.place.offset + 4,
+            stage: Stage::BlockHead(block.order),
+        };
+        StepTaken::Passed { used: 4 }
+    }
+
+    /// One step that is not usual, out of line. The answer is copied out of a variable of its own: what a call writes through a pointer
+    /// stays in memory, and the answers of the usual steps would be there with it.
+    #[inline]
     fn take_rare(&mut self, input: &[u8]) -> StepTaken
         requires { self.old.refusal ≡ None }
         ensures { TakesStep self.old input.now result self.new }
     {
-        self.take_bytes(input)
+        let step = self.take_bytes(input);
+        step
     }
 
-    /// One step.
-    #[inline(always)]
+    /// One step of any kind, whose bytes may come in pieces.
     fn take_bytes(&mut self, input: &[u8]) -> StepTaken
         requires { self.old.refusal ≡ None }
         ensures { TakesStep self.old input.now result self.new }

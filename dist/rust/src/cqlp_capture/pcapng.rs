@@ -275,14 +275,41 @@ pub(crate) fn read_enhanced_body(
     let Some(time) = captured_time(unit, interface.offset, units) else {
         return skip(offset + 20, block, SkipReason::TimeTooLarge);
     };
-    let packet = PacketHead {
+    let packet = enhanced_packet(number, order, interface, time, bytes);
+    read_within(limit, offset + 20, block, packet)
+}
+
+/// The enhanced packet that has these numbers, if its interface is known and its time can be read.
+#[inline]
+pub(crate) fn read_enhanced(
+    known: &[KnownInterface],
+    order: ByteOrder,
+    bytes: &[u8],
+) -> Option<PacketHead> {
+    let number = order.read_u32(bytes, 0);
+    let interface = known.get(number as usize).copied()?;
+    let unit = interface.unit?;
+    let units = order.read_u32(bytes, 4) as u64 * 0x1_0000_0000 + order.read_u32(bytes, 8) as u64;
+    let time = captured_time(unit, interface.offset, units)?;
+    Some(enhanced_packet(number, order, interface, time, bytes))
+}
+
+/// The packet that has these numbers, whose interface has this number, and whose time is so many nanoseconds.
+#[inline]
+fn enhanced_packet(
+    number: u32,
+    order: ByteOrder,
+    interface: KnownInterface,
+    time: u64,
+    bytes: &[u8],
+) -> PacketHead {
+    PacketHead {
         interface: number,
         link: interface.link,
         time: Some(time),
         captured: order.read_u32(bytes, 12),
         original: order.read_u32(bytes, 16),
-    };
-    read_within(limit, offset + 20, block, packet)
+    }
 }
 
 /// That a packet begins, whose bytes are at this offset, if they lie in the block and the limit allows as many.
@@ -304,7 +331,7 @@ fn read_within(
 
 /// How many bytes a block has from this offset on to its second length.
 #[inline]
-fn room_after(block: Block, offset: u64) -> u64 {
+pub(crate) fn room_after(block: Block, offset: u64) -> u64 {
     block.end() - offset
 }
 
