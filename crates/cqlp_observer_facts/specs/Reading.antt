@@ -27,6 +27,10 @@ passed n s = record { flags = s.flags; opcode = s.opcode; due = s.due; front = s
 abbrev pub waiting : List ℕ → FactsReader → FactsReader
 waiting b s = record { flags = s.flags; opcode = s.opcode; due = s.due; front = b; passing = s.passing; facts = s.facts }
 
+-- this field is due
+abbrev pub with_due : Due → FactsReader → FactsReader
+with_due d s = record { flags = s.flags; opcode = s.opcode; due = d; front = s.front; passing = s.passing; facts = s.facts }
+
 -- what follows a field
 abbrev pub gone_to : Next → FactsReader → FactsReader
 gone_to n s = record { flags = s.flags; opcode = s.opcode; due = n.due; front = []; passing = n.passing; facts = with_fact_if n.fact s.facts }

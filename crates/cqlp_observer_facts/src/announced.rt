@@ -41,11 +41,11 @@ impl Announced {
 
     /// What follows the field that these bytes are.
     #[inline(never)]
-    pub(crate) fn following(self, flags: u8, opcode: Opcode, bytes: &[u8]) -> Next
-        requires { announced_width self ≤ length bytes.now }
-        ensures { result ≡ announced_following flags opcode self bytes.now }
+    pub(crate) fn following(&self, flags: u8, opcode: Opcode, bytes: &[u8]) -> Next
+        requires { announced_width self.now ≤ length bytes.now }
+        ensures { result ≡ announced_following flags opcode self.now bytes.now }
     {
-        match self {
+        match *self {
             Announced::TraceId => {
                 Next::says(Fact::TraceId(array(bytes)), after_trace_id(flags, opcode))
             }

@@ -41,22 +41,19 @@ impl BatchField {
     }
 
     /// What follows the field that these bytes are.
-    #[inline(never)]
-    pub(crate) fn following(self, bytes: &[u8]) -> Next
-        requires { batch_width self ≤ length bytes.now }
-        ensures { result ≡ batch_following self bytes.now }
+    #[inline(always)]
+    pub(crate) fn following(&self, bytes: &[u8]) -> Next
+        requires { batch_width self.now ≤ length bytes.now }
+        ensures { result ≡ batch_following self.now bytes.now }
     {
-        match self {
+        match *self {
             BatchField::Type => Next::at(Due::Batch(BatchField::Count)),
             BatchField::Count => Next::at(entries_due(short(bytes))),
             BatchField::Kind { more } => Next::at(kind_following(byte(bytes), more)),
             BatchField::Text { more } => {
                 past_text(bytes, Due::Batch(BatchField::ValueCount { more }))
             }
-            BatchField::Id { more } => Next::past(
-                short(bytes).into(),
-                Due::Batch(BatchField::ValueCount { more }),
-            ),
+            BatchField::Id { more } => id_following(bytes, more),
             BatchField::ValueCount { more } => Next::at(entry_values_due(short(bytes), more)),
             BatchField::Value { values, more } => {
                 past_value(int(bytes), entry_values_due(values, more))
@@ -66,7 +63,20 @@ impl BatchField {
     }
 }
 
+/// What follows the id of a statement, before so many more.
+#[inline(always)]
+pub(crate) fn id_following(bytes: &[u8], more: u16) -> Next
+    requires { 2 ≤ length bytes.now }
+    ensures { result ≡ batch_following (BatchField.Id more) bytes.now }
+{
+    Next::past(
+        short(bytes).into(),
+        Due::Batch(BatchField::ValueCount { more }),
+    )
+}
+
 /// So many statements, and what follows them.
+#[inline(always)]
 fn entries_due(count: u16) -> Due
     ensures { result ≡ entries_due count }
 {
@@ -78,7 +88,8 @@ fn entries_due(count: u16) -> Due
 }
 
 /// What follows the kind of a statement: 0 is a text, and 1 an id.
-fn kind_following(kind: u8, more: u16) -> Due
+#[inline(always)]
+pub(crate) fn kind_following(kind: u8, more: u16) -> Due
     ensures { result ≡ kind_following kind more }
 {
     if kind == 0 {
@@ -91,7 +102,8 @@ fn kind_following(kind: u8, more: u16) -> Due
 }
 
 /// So many values of a statement, and what follows them.
-fn entry_values_due(count: u16, more: u16) -> Due
+#[inline(always)]
+pub(crate) fn entry_values_due(count: u16, more: u16) -> Due
     ensures { result ≡ entry_values_due count more }
 {
     if count == 0 {

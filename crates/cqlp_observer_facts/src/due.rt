@@ -147,9 +147,9 @@ impl Due {
 
     /// What follows the field that these bytes are.
     #[inline(always)]
-    pub(crate) fn following(self, flags: u8, opcode: Opcode, bytes: &[u8]) -> Next
-        requires { width self ≤ length bytes.now }
-        ensures { result ≡ following flags opcode self bytes.now }
+    pub(crate) fn following(&self, flags: u8, opcode: Opcode, bytes: &[u8]) -> Next
+        requires { width self.now ≤ length bytes.now }
+        ensures { result ≡ following flags opcode self.now bytes.now }
     {
         match self {
             Due::Announced(field) => field.following(flags, opcode, bytes),
@@ -181,7 +181,7 @@ pub(crate) fn past_text(bytes: &[u8], due: Due) -> Next
 
 /// What follows the kind of a RESULT.
 #[inline(always)]
-fn result_kind(kind: u32) -> Next
+pub(crate) fn result_kind(kind: u32) -> Next
     ensures { result ≡ result_kind kind }
 {
     let due = if kind == 2 {

@@ -46,15 +46,12 @@ impl QueryField {
 
     /// What follows the field that these bytes are.
     #[inline(always)]
-    pub(crate) fn following(self, bytes: &[u8]) -> Next
-        requires { query_width self ≤ length bytes.now }
-        ensures { result ≡ query_following self bytes.now }
+    pub(crate) fn following(&self, bytes: &[u8]) -> Next
+        requires { query_width self.now ≤ length bytes.now }
+        ensures { result ≡ query_following self.now bytes.now }
     {
-        match self {
-            QueryField::Consistency => Next::says(
-                Fact::Consistency(short(bytes)),
-                Due::Query(QueryField::Flags),
-            ),
+        match *self {
+            QueryField::Consistency => consistency_following(bytes),
             QueryField::Flags => Next::at(flags_following(byte(bytes).into())),
             QueryField::ValueCount(form) => Next::at(values_due(short(bytes), form)),
             QueryField::ValueName { more, form } => Next::past(
@@ -62,12 +59,30 @@ impl QueryField {
                 Due::Query(QueryField::Value { more, form }),
             ),
             QueryField::Value { more, form } => past_value(int(bytes), values_due(more, form)),
-            QueryField::PageSize => Next::says(
-                Fact::PageSize(i32::from_be_bytes(array(bytes))),
-                Due::Over,
-            ),
+            QueryField::PageSize => page_size_following(bytes),
         }
     }
+}
+
+/// What follows the consistency.
+#[inline(always)]
+pub(crate) fn consistency_following(bytes: &[u8]) -> Next
+    requires { 2 ≤ length bytes.now }
+    ensures { result ≡ query_following QueryField.Consistency bytes.now }
+{
+    Next::says(
+        Fact::Consistency(short(bytes)),
+        Due::Query(QueryField::Flags),
+    )
+}
+
+/// What follows the page size.
+#[inline(always)]
+pub(crate) fn page_size_following(bytes: &[u8]) -> Next
+    requires { 4 ≤ length bytes.now }
+    ensures { result ≡ query_following QueryField.PageSize bytes.now }
+{
+    Next::says(Fact::PageSize(i32::from_be_bytes(array(bytes))), Due::Over)
 }
 
 /// The first of the parameters.
@@ -80,7 +95,7 @@ pub(crate) fn consistency_due() -> Due
 
 /// What follows the flags: 01 says that there are values, 04 a page size, and 40 that values have names.
 #[inline(always)]
-fn flags_following(flags: u32) -> Due
+pub(crate) fn flags_following(flags: u32) -> Due
     ensures { result ≡ flags_following flags }
 {
     let paged = has(flags, 0x04);
@@ -105,7 +120,7 @@ fn page_size_due(paged: bool) -> Due
 
 /// So many values, and what follows them.
 #[inline(always)]
-fn values_due(count: u16, form: ValueForm) -> Due
+pub(crate) fn values_due(count: u16, form: ValueForm) -> Due
     ensures { result ≡ values_due count form }
 {
     if count == 0 {

@@ -4,10 +4,17 @@ ghost use Rattle.std.specs.Prelude.{◌≡◌, ◌≤◌, IfSome, false, if◌th
 ghost use Rattle.cqlp_observer_facts.specs.Due.{is_idle};
 
 use crate::announced::first_due;
-use crate::columns::{Column, column_of};
-use crate::due::{Due, Next};
+use crate::batch::{BatchField, entry_values_due, id_following, kind_following};
+use crate::columns::plain_column_of;
+use crate::due::{Due, Next, past_text, result_kind};
 use crate::facts::Facts;
 use crate::field_front::FieldFront;
+use crate::numbers::{byte, int, short};
+use crate::query::{
+    QueryField, ValueForm, consistency_due, consistency_following, flags_following,
+    page_size_following, past_value, values_due,
+};
+use crate::rows::{RowsField, columns_following, page_flags_following, row_count};
 use cqlp_note::{Header, Opcode};
 
 /// What a message says, as the bytes of its body pass, in pieces of any size.
@@ -30,8 +37,8 @@ pub struct FactsReader {
 
 impl FactsReader {
     ghost use Rattle.cqlp_observer_facts.specs.Bodies.{width};
-    ghost use Rattle.cqlp_observer_facts.specs.Columns.{PassesColumn};
-    ghost use Rattle.cqlp_observer_facts.specs.Reading.{before, begun, gone_on, gone_to, idle, is_before, passed, read, taken};
+    ghost use Rattle.cqlp_observer_facts.specs.Columns.{PassesColumn, next_column};
+    ghost use Rattle.cqlp_observer_facts.specs.Reading.{before, begun, gone_on, gone_to, idle, is_before, passed, read, taken, with_due};
 
     /// Nothing is read.
     #[must_use]
@@ -99,7 +106,7 @@ impl FactsReader {
     fn is_before(&self) -> bool
         ensures { result ≡ is_before self.now }
     {
-        match self.due {
+        match &self.due {
             Due::Announced(_) => true,
             due => self.passing > 0 && due.is_opening(),
         }
@@ -137,7 +144,7 @@ impl FactsReader {
         self.take_fields(rest)
     }
 
-    /// Takes a column that is due, if it lies whole in these bytes; else bytes of the field that is due.
+    /// Takes a column that is due, if it lies whole in these bytes and is plain; else bytes of the field that is due.
     #[inline(always)]
     fn take_fields(&mut self, rest: &[u8]) -> usize
         requires some { 1 ≤ length rest.now }
@@ -148,30 +155,40 @@ impl FactsReader {
         ensures after { self.new ≡ read (take result rest.now) self.old }
         ensures before { before (take result rest.now) self.old ≡ (if is_before self.old then result else 0) }
     {
-        match self.column(rest) {
-            Some(column) => {
-                self.go_to(Next::at(column.due));
-                column.used
+        match self.plain_column(rest) {
+            Some(used) => {
+                self.go_to_next_column();
+                used
             }
             None => self.take_field(rest),
         }
     }
 
-    /// The column that is due, if it lies whole in these bytes.
+    /// How many bytes the column has that is due, if it lies whole in these bytes, its type is plain and one more column comes after it.
     #[inline(always)]
-    fn column(&self, rest: &[u8]) -> Option<Column>
+    fn plain_column(&self, rest: &[u8]) -> Option<usize>
         requires { self.now.passing ≡ 0 }
-        ensures { IfSome result (λ c. PassesColumn rest.now c.used c.due self.now) }
+        ensures { IfSome result (λ used. PassesColumn rest.now used (next_column self.now.due) self.now) }
     {
-        match self.due {
+        match &self.due {
             Due::Rows(field) => {
                 if self.front.is_empty() {
-                    column_of(field, rest)
+                    plain_column_of(field, rest)
                 } else {
                     None
                 }
             }
             _ => None,
+        }
+    }
+
+    /// Goes on after a column of a plain type.
+    #[inline(always)]
+    fn go_to_next_column(&mut self)
+        ensures { self.new ≡ with_due (next_column self.old.due) self.old }
+    {
+        if let Due::Rows(RowsField::Name { more: _, types }) = &mut self.due {
+            types.first.fields = types.first.fields.saturating_sub(1);
         }
     }
 
@@ -217,18 +234,73 @@ impl FactsReader {
         }
     }
 
-    /// Goes on after a field.
+    /// Goes on after a field. Of each field its parts alone are read, where they lie.
     #[inline(always)]
     fn pass_field(&mut self, bytes: &[u8])
         requires { width self.old.due ≤ length bytes.now }
         ensures { self.new ≡ gone_on bytes.now self.old }
     {
         match self.due {
-            Due::Query(field) => self.go_to(field.following(bytes)),
-            Due::Batch(field) => self.go_to(field.following(bytes)),
-            Due::Rows(field) => self.go_to(field.following(bytes)),
-            due => self.go_to(due.following(self.flags, self.opcode, bytes)),
+            Due::StatementId => self.go_to(Next::past(short(bytes).into(), consistency_due())),
+            Due::Query(QueryField::Consistency) => self.go_to(consistency_following(bytes)),
+            Due::Query(QueryField::Flags) => self.go_to(Next::at(flags_following(byte(
+                bytes,
+            ).into()))),
+            Due::Query(QueryField::ValueCount(ValueForm { named, paged })) => {
+                self.go_to(Next::at(values_due(short(bytes), ValueForm { named, paged })))
+            }
+            Due::Query(
+                QueryField::Value {
+                    more,
+                    form: ValueForm { named, paged },
+                },
+            ) => {
+                self.go_to(past_value(int(bytes), values_due(more, ValueForm { named, paged })))
+            }
+            Due::Query(QueryField::PageSize) => self.go_to(page_size_following(bytes)),
+            _ => self.pass_other(bytes),
         }
+    }
+
+    /// Goes on after a field, out of line.
+    #[inline(never)]
+    fn pass_other(&mut self, bytes: &[u8])
+        requires { width self.old.due ≤ length bytes.now }
+        ensures { self.new ≡ gone_on bytes.now self.old }
+    {
+        match self.due {
+            Due::QueryText => self.go_to(past_text(bytes, consistency_due())),
+            Due::ResultKind => self.go_to(result_kind(int(bytes))),
+            Due::Batch(BatchField::Kind { more }) => self.go_to(Next::at(kind_following(
+                byte(bytes),
+                more,
+            ))),
+            Due::Batch(BatchField::Id { more }) => self.go_to(id_following(bytes, more)),
+            Due::Batch(BatchField::ValueCount { more }) => self.go_to(Next::at(entry_values_due(
+                short(bytes),
+                more,
+            ))),
+            Due::Batch(BatchField::Value { values, more }) => self.go_to(past_value(
+                int(bytes),
+                entry_values_due(values, more),
+            )),
+            Due::Rows(RowsField::Flags) => self.go_to(page_flags_following(bytes)),
+            Due::Rows(RowsField::ColumnCount { flags }) => self.go_to(columns_following(
+                flags, bytes,
+            )),
+            Due::Rows(RowsField::RowCount) => self.go_to(row_count(bytes)),
+            _ => self.pass_rare(bytes),
+        }
+    }
+
+    /// Goes on after any field.
+    #[inline(never)]
+    fn pass_rare(&mut self, bytes: &[u8])
+        requires { width self.old.due ≤ length bytes.now }
+        ensures { self.new ≡ gone_on bytes.now self.old }
+    {
+        let next = self.due.following(self.flags, self.opcode, bytes);
+        self.go_to(next);
     }
 
     /// Goes on with what follows a field.
@@ -238,7 +310,7 @@ impl FactsReader {
     {
         self.due = next.due;
         self.passing = next.passing;
-        self.front = FieldFront::new();
+        self.front.clear();
         if let Some(fact) = next.fact {
             self.facts.add(fact);
         }

@@ -48,13 +48,13 @@ impl RowsField {
     }
 
     /// What follows the field that these bytes are.
-    #[inline]
-    pub(crate) fn following(self, bytes: &[u8]) -> Next
-        requires { rows_width self ≤ length bytes.now }
-        ensures { result ≡ rows_following self bytes.now }
+    #[inline(always)]
+    pub(crate) fn following(&self, bytes: &[u8]) -> Next
+        requires { rows_width self.now ≤ length bytes.now }
+        ensures { result ≡ rows_following self.now bytes.now }
     {
-        match self {
-            RowsField::Flags => Next::at(Due::Rows(RowsField::ColumnCount { flags: int(bytes) })),
+        match *self {
+            RowsField::Flags => page_flags_following(bytes),
             RowsField::ColumnCount { flags } => columns_following(flags, bytes),
             RowsField::PagingState { flags, columns } => {
                 past_bytes(int(bytes), columns_due(flags, columns))
@@ -75,9 +75,18 @@ impl RowsField {
     }
 }
 
+/// What follows the flags.
+#[inline(always)]
+pub(crate) fn page_flags_following(bytes: &[u8]) -> Next
+    requires { 4 ≤ length bytes.now }
+    ensures { result ≡ rows_following RowsField.Flags bytes.now }
+{
+    Next::at(Due::Rows(RowsField::ColumnCount { flags: int(bytes) }))
+}
+
 /// What follows the number of columns.
 #[inline(always)]
-fn columns_following(flags: u32, bytes: &[u8]) -> Next
+pub(crate) fn columns_following(flags: u32, bytes: &[u8]) -> Next
     requires { 4 ≤ length bytes.now }
     ensures { result ≡ columns_following flags bytes.now }
 {
@@ -151,7 +160,7 @@ fn types_due(types: Types) -> Due
 /// What follows the id of a type: of a custom one its name, of a list or a set one type and of a map two, of a UDT its names and fields, of
 /// a tuple its types.
 #[inline(always)]
-pub(crate) fn after_option(id: u16, types: Types) -> Due
+fn after_option(id: u16, types: Types) -> Due
     ensures { result ≡ after_option id types }
 {
     match id {
@@ -176,7 +185,7 @@ pub(crate) fn after_option(id: u16, types: Types) -> Due
 
 /// Whether nothing follows the id of such a type.
 #[inline(always)]
-fn is_plain(id: u16) -> bool
+pub(crate) fn is_plain(id: u16) -> bool
     ensures { result ≡ is_plain id }
 {
     id <= 0x0014 && id != 0x000A
@@ -210,7 +219,7 @@ fn fields_due(count: u16, types: Types) -> Due
 
 /// The number of rows.
 #[inline(always)]
-fn row_count(bytes: &[u8]) -> Next
+pub(crate) fn row_count(bytes: &[u8]) -> Next
     requires { 4 ≤ length bytes.now }
     ensures { result ≡ row_count bytes.now }
 {

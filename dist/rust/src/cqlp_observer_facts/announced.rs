@@ -36,8 +36,8 @@ impl Announced {
 
     /// What follows the field that these bytes are.
     #[inline(never)]
-    pub(crate) fn following(self, flags: u8, opcode: Opcode, bytes: &[u8]) -> Next {
-        match self {
+    pub(crate) fn following(&self, flags: u8, opcode: Opcode, bytes: &[u8]) -> Next {
+        match *self {
             Announced::TraceId => {
                 Next::says(Fact::TraceId(array(bytes)), after_trace_id(flags, opcode))
             }

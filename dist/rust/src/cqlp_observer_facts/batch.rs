@@ -37,19 +37,16 @@ impl BatchField {
     }
 
     /// What follows the field that these bytes are.
-    #[inline(never)]
-    pub(crate) fn following(self, bytes: &[u8]) -> Next {
-        match self {
+    #[inline(always)]
+    pub(crate) fn following(&self, bytes: &[u8]) -> Next {
+        match *self {
             BatchField::Type => Next::at(Due::Batch(BatchField::Count)),
             BatchField::Count => Next::at(entries_due(short(bytes))),
             BatchField::Kind { more } => Next::at(kind_following(byte(bytes), more)),
             BatchField::Text { more } => {
                 past_text(bytes, Due::Batch(BatchField::ValueCount { more }))
             }
-            BatchField::Id { more } => Next::past(
-                short(bytes).into(),
-                Due::Batch(BatchField::ValueCount { more }),
-            ),
+            BatchField::Id { more } => id_following(bytes, more),
             BatchField::ValueCount { more } => Next::at(entry_values_due(short(bytes), more)),
             BatchField::Value { values, more } => {
                 past_value(int(bytes), entry_values_due(values, more))
@@ -59,7 +56,17 @@ impl BatchField {
     }
 }
 
+/// What follows the id of a statement, before so many more.
+#[inline(always)]
+pub(crate) fn id_following(bytes: &[u8], more: u16) -> Next {
+    Next::past(
+        short(bytes).into(),
+        Due::Batch(BatchField::ValueCount { more }),
+    )
+}
+
 /// So many statements, and what follows them.
+#[inline(always)]
 fn entries_due(count: u16) -> Due {
     if count == 0 {
         Due::Batch(BatchField::Consistency)
@@ -69,7 +76,8 @@ fn entries_due(count: u16) -> Due {
 }
 
 /// What follows the kind of a statement: 0 is a text, and 1 an id.
-fn kind_following(kind: u8, more: u16) -> Due {
+#[inline(always)]
+pub(crate) fn kind_following(kind: u8, more: u16) -> Due {
     if kind == 0 {
         Due::Batch(BatchField::Text { more })
     } else if kind == 1 {
@@ -80,7 +88,8 @@ fn kind_following(kind: u8, more: u16) -> Due {
 }
 
 /// So many values of a statement, and what follows them.
-fn entry_values_due(count: u16, more: u16) -> Due {
+#[inline(always)]
+pub(crate) fn entry_values_due(count: u16, more: u16) -> Due {
     if count == 0 {
         entries_due(more)
     } else {

@@ -126,7 +126,7 @@ impl Due {
 
     /// What follows the field that these bytes are.
     #[inline(always)]
-    pub(crate) fn following(self, flags: u8, opcode: Opcode, bytes: &[u8]) -> Next {
+    pub(crate) fn following(&self, flags: u8, opcode: Opcode, bytes: &[u8]) -> Next {
         match self {
             Due::Announced(field) => field.following(flags, opcode, bytes),
             Due::QueryText => past_text(bytes, consistency_due()),
@@ -154,7 +154,7 @@ pub(crate) fn past_text(bytes: &[u8], due: Due) -> Next {
 
 /// What follows the kind of a RESULT.
 #[inline(always)]
-fn result_kind(kind: u32) -> Next {
+pub(crate) fn result_kind(kind: u32) -> Next {
     let due = if kind == 2 {
         Due::Rows(RowsField::Flags)
     } else {

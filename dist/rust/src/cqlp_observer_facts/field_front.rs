@@ -16,6 +16,12 @@ impl FieldFront {
         }
     }
 
+    /// No bytes.
+    #[inline(always)]
+    pub(crate) fn clear(&mut self) {
+        self.len = 0;
+    }
+
     /// The first so many of these bytes.
     #[inline(always)]
     pub(crate) fn of(bytes: [u8; 16], len: usize) -> Self {

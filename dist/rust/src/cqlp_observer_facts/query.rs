@@ -41,12 +41,9 @@ impl QueryField {
 
     /// What follows the field that these bytes are.
     #[inline(always)]
-    pub(crate) fn following(self, bytes: &[u8]) -> Next {
-        match self {
-            QueryField::Consistency => Next::says(
-                Fact::Consistency(short(bytes)),
-                Due::Query(QueryField::Flags),
-            ),
+    pub(crate) fn following(&self, bytes: &[u8]) -> Next {
+        match *self {
+            QueryField::Consistency => consistency_following(bytes),
             QueryField::Flags => Next::at(flags_following(byte(bytes).into())),
             QueryField::ValueCount(form) => Next::at(values_due(short(bytes), form)),
             QueryField::ValueName { more, form } => Next::past(
@@ -54,12 +51,24 @@ impl QueryField {
                 Due::Query(QueryField::Value { more, form }),
             ),
             QueryField::Value { more, form } => past_value(int(bytes), values_due(more, form)),
-            QueryField::PageSize => Next::says(
-                Fact::PageSize(i32::from_be_bytes(array(bytes))),
-                Due::Over,
-            ),
+            QueryField::PageSize => page_size_following(bytes),
         }
     }
+}
+
+/// What follows the consistency.
+#[inline(always)]
+pub(crate) fn consistency_following(bytes: &[u8]) -> Next {
+    Next::says(
+        Fact::Consistency(short(bytes)),
+        Due::Query(QueryField::Flags),
+    )
+}
+
+/// What follows the page size.
+#[inline(always)]
+pub(crate) fn page_size_following(bytes: &[u8]) -> Next {
+    Next::says(Fact::PageSize(i32::from_be_bytes(array(bytes))), Due::Over)
 }
 
 /// The first of the parameters.
@@ -70,7 +79,7 @@ pub(crate) fn consistency_due() -> Due {
 
 /// What follows the flags: 01 says that there are values, 04 a page size, and 40 that values have names.
 #[inline(always)]
-fn flags_following(flags: u32) -> Due {
+pub(crate) fn flags_following(flags: u32) -> Due {
     let paged = has(flags, 0x04);
     if has(flags, 0x01) {
         let named = has(flags, 0x40);
@@ -91,7 +100,7 @@ fn page_size_due(paged: bool) -> Due {
 
 /// So many values, and what follows them.
 #[inline(always)]
-fn values_due(count: u16, form: ValueForm) -> Due {
+pub(crate) fn values_due(count: u16, form: ValueForm) -> Due {
     if count == 0 {
         page_size_due(form.paged)
     } else if form.named {

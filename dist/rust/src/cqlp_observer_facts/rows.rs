@@ -43,10 +43,10 @@ impl RowsField {
     }
 
     /// What follows the field that these bytes are.
-    #[inline]
-    pub(crate) fn following(self, bytes: &[u8]) -> Next {
-        match self {
-            RowsField::Flags => Next::at(Due::Rows(RowsField::ColumnCount { flags: int(bytes) })),
+    #[inline(always)]
+    pub(crate) fn following(&self, bytes: &[u8]) -> Next {
+        match *self {
+            RowsField::Flags => page_flags_following(bytes),
             RowsField::ColumnCount { flags } => columns_following(flags, bytes),
             RowsField::PagingState { flags, columns } => {
                 past_bytes(int(bytes), columns_due(flags, columns))
@@ -67,9 +67,15 @@ impl RowsField {
     }
 }
 
+/// What follows the flags.
+#[inline(always)]
+pub(crate) fn page_flags_following(bytes: &[u8]) -> Next {
+    Next::at(Due::Rows(RowsField::ColumnCount { flags: int(bytes) }))
+}
+
 /// What follows the number of columns.
 #[inline(always)]
-fn columns_following(flags: u32, bytes: &[u8]) -> Next {
+pub(crate) fn columns_following(flags: u32, bytes: &[u8]) -> Next {
     let count = int(bytes);
     if is_negative(count) {
         Next::at(Due::Over)
@@ -132,7 +138,7 @@ fn types_due(types: Types) -> Due {
 /// What follows the id of a type: of a custom one its name, of a list or a set one type and of a map two, of a UDT its names and fields, of
 /// a tuple its types.
 #[inline(always)]
-pub(crate) fn after_option(id: u16, types: Types) -> Due {
+fn after_option(id: u16, types: Types) -> Due {
     match id {
         0x0000 => names_due(1, types),
         0x0020 => types_due(types.with_types(1)),
@@ -155,7 +161,7 @@ pub(crate) fn after_option(id: u16, types: Types) -> Due {
 
 /// Whether nothing follows the id of such a type.
 #[inline(always)]
-fn is_plain(id: u16) -> bool {
+pub(crate) fn is_plain(id: u16) -> bool {
     id <= 0x0014 && id != 0x000A
 }
 
@@ -183,7 +189,7 @@ fn fields_due(count: u16, types: Types) -> Due {
 
 /// The number of rows.
 #[inline(always)]
-fn row_count(bytes: &[u8]) -> Next {
+pub(crate) fn row_count(bytes: &[u8]) -> Next {
     if is_negative(int(bytes)) {
         Next::at(Due::Over)
     } else {
