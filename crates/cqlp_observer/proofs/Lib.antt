@@ -13,3 +13,4 @@ pub mod Fed
 pub mod Few
 pub mod Said
 pub mod NoBytes
+pub mod WholeFrame

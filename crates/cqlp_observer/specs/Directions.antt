@@ -1,5 +1,5 @@
 -- One direction of a connection: what its bytes and gaps are.
-use Rattle.std.specs.Prelude.{ℕ, ◌+◌, ◌-◌, ◌^◌, ◌==◌, Bool, false, List, [], ◌++◌, length, take, min, Option, Some, None, nat_lt, if◌then◌else◌}
+use Rattle.std.specs.Prelude.{ℕ, ◌+◌, ◌-◌, ◌^◌, ◌==◌, ◌≡◌, ◌≤◌, Bool, true, false, List, [], ◌++◌, length, take, min, Option, Some, None, nat_lt, if◌then◌else◌}
 use Rattle.std.specs.Option.{option_or}
 use Rattle.cqlp_note.specs.declared.header.Header.{Header}
 use Rattle.cqlp_observer.specs.declared.message.Extent.TheVariants.{Whole, Holed, Short}
@@ -10,7 +10,8 @@ use Rattle.cqlp_observer.specs.declared.heads.Heard.{Heard}
 use Rattle.cqlp_observer.specs.declared.heads.Heard.TheVariants as heard_as
 use Rattle.cqlp_observer.specs.declared.heads.Stage.{Stage}
 use Rattle.cqlp_observer.specs.declared.heads.Stage.TheVariants as stage
-use Rattle.cqlp_observer.specs.Heads.{head_within}
+use Rattle.cqlp_observer.specs.Heads.{head_of, head_within}
+use Rattle.cqlp_observer.specs.Openings.{is_between}
 
 abbrev pub direction : Bool → ℕ → Stage → Heads
 direction responses position at = record { responses = responses; position = position; stage = at }
@@ -73,6 +74,20 @@ passed f left time b s =
     let used = min (length b) left in
     hears used heard_as.Body (stage.Body (record f { ended = time }) (left - used)) s
 
+-- how many bytes of it are still to come
+abbrev pub left_in : Stage → Option ℕ
+left_in stage.Lost = None
+left_in stage.Between = None
+left_in (stage.Header front at first) = None
+left_in (stage.Body f left) = Some left
+
+-- so many more of them came
+abbrev pub passed_by : (used : ℕ) → (time : Option ℕ) → Stage → Stage
+passed_by used time stage.Lost = stage.Lost
+passed_by used time stage.Between = stage.Between
+passed_by used time (stage.Header front at first) = stage.Header front at first
+passed_by used time (stage.Body f left) = stage.Body (record f { ended = time }) (left - used)
+
 -- ---- the bytes of a piece
 
 abbrev pub heard_in : Stage → (time : Option ℕ) → (begins : Bool) → List ℕ → Heads → Steps
@@ -99,6 +114,26 @@ heard_some time begins b s =
 abbrev pub heard : (time : Option ℕ) → (begins : Bool) → List ℕ → Heads → Steps
 heard time begins b s = if is_over s.stage then ended_in s.stage s else heard_some time begins b s
 
+-- the frame that is reported, and the direction after it
+pub record Closes : Type 0 where
+  pub frame : Option Frame
+  pub after : Heads
+
+abbrev pub closing : Option Frame → Heads → Closes
+closing f s = record { frame = f; after = s }
+
+-- ---- a frame that lies whole in a piece, between two frames
+
+pub record IsWholeHead (h : Header) (b : List ℕ) (s : Heads) : Type 0 where
+  pub between : is_between s.stage ≡ true
+  pub head : head_of s.responses (take 9 b) ≡ Some h
+  pub long : 9 + h.length ≤ length b
+
+-- it passes
+abbrev pub passed_frame : Header → (time : Option ℕ) → Heads → Closes
+passed_frame h time s =
+    closing (Some (record { header = h; at = s.position; begun = time; ended = time; extent = Whole })) (counted h.length (counted 9 s))
+
 -- ---- a gap, and the end
 
 abbrev pub holed : Frame → Frame
@@ -111,14 +146,6 @@ passed_in f left time = if left == 0 then f else record f { ended = option_or ti
 -- If some of it is left, it ends early.
 abbrev pub shortened : Frame → (left : ℕ) → Frame
 shortened f left = if left == 0 then f else record f { extent = Short }
-
--- the frame that is reported, and the direction after it
-pub record Closes : Type 0 where
-  pub frame : Option Frame
-  pub after : Heads
-
-abbrev pub closing : Option Frame → Heads → Closes
-closing f s = record { frame = f; after = s }
 
 -- Within a body the gap makes a hole in the frame, and past its end no frame is known to begin.
 abbrev pub gap_in : Stage → ℕ → (time : Option ℕ) → Heads → Closes

@@ -86,3 +86,7 @@ after_gap n time s = closed_by (direction.after_gap n time s.heads) (broken_if s
 
 abbrev pub after_end : Speaker → Endings
 after_end s = closed_by (direction.after_end s.heads) s.present
+
+-- a frame with this header that lies whole in the next bytes: its message, and the side after it
+abbrev pub after_frame : Header → (time : Option ℕ) → List ℕ → Speaker → Endings
+after_frame h time b s = closed_by (direction.passed_frame h time s.heads) (Some (read_on (take h.length (drop 9 b)) (begun_with h)))

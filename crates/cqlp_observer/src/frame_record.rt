@@ -134,6 +134,7 @@ impl<T> MessageRecord<T> {
     }
 
     /// Whether it and the next under its stream id are a request and its response, as [`Message::meets`] says.
+    #[inline(always)]
     pub(crate) fn meets(&self, next: &Message<T>) -> bool
         ensures { result ≡ meets self.now next.now }
     {

@@ -1,6 +1,6 @@
 //! The first bytes of a frame, out of pieces.
 
-ghost use Rattle.std.specs.Prelude.{◌≡◌, ◌==◌, ◌-◌, ◌++◌, [], length, take, IfSome};
+ghost use Rattle.std.specs.Prelude.{◌≡◌, ◌≤◌, ◌==◌, ◌-◌, ◌++◌, [], length, take, IfSome};
 ghost use Rattle.cqlp_observer.specs.Heads.{head_of};
 
 use cqlp_note::Header;
@@ -73,7 +73,7 @@ impl HeaderFront {
 
 /// The header that nine bytes are in this direction. Its frame may be compressed.
 #[inline(always)]
-fn read_head(bytes: &[u8; 9], responses: bool) -> Option<Header>
+pub(crate) fn read_head(bytes: &[u8; 9], responses: bool) -> Option<Header>
     ensures { result ≡ head_of responses bytes.now }
 {
     let flags = bytes[1];
@@ -83,4 +83,13 @@ fn read_head(bytes: &[u8; 9], responses: bool) -> Option<Header>
         Ok(header) if header.response == responses => Some(Header { flags, ..header }),
         _ => None,
     }
+}
+
+/// The first nine bytes.
+#[inline(always)]
+pub(crate) fn first_nine(bytes: &[u8]) -> &[u8; 9]
+    requires { 9 ≤ length bytes.now }
+    ensures { result.now ≡ take 9 bytes.now }
+{
+    bytes.first_chunk().unwrap()
 }

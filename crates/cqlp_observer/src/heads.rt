@@ -1,9 +1,9 @@
 //! The frames of one direction, by their headers.
 
-ghost use Rattle.std.specs.Prelude.{◌≡◌, ◌≤◌, if◌then◌else◌, length, take, None};
+ghost use Rattle.std.specs.Prelude.{◌≡◌, ◌≤◌, ◌<◌, Bool, if◌then◌else◌, length, take, IfSome, None, Some};
 ghost use Rattle.cqlp_observer.specs.Directions.{holed, passed_in, shortened};
 
-use crate::header_front::HeaderFront;
+use crate::header_front::{HeaderFront, first_nine, read_head};
 use crate::message::{Extent, Frame};
 use crate::opening::{Opening, opening_with};
 use crate::stage_record::StageRecord;
@@ -69,8 +69,8 @@ pub struct Heads {
 impl Heads {
     ghost use Rattle.cqlp_observer.specs.Heads.{head_within};
     ghost use Rattle.cqlp_observer.specs.Openings.{is_between, opening_in};
-    ghost use Rattle.cqlp_observer.specs.Directions.{after_end, after_gap, anew, begun, closing, counted, filled, heard};
-    ghost use Rattle.cqlp_observer.specs.Directions.{hears, passed, passed_whole, sought, stepping};
+    ghost use Rattle.cqlp_observer.specs.Directions.{IsWholeHead, after_end, after_gap, anew, begun, closing, counted, ended_in, filled, heard};
+    ghost use Rattle.cqlp_observer.specs.Directions.{hears, left_in, passed_frame, passed_whole, sought, stepping};
 
     /// A direction of which nothing came: that of the responses, or that of the requests. Its first byte begins a frame, where `from_start`.
     #[must_use]
@@ -96,29 +96,101 @@ impl Heads {
         ensures reported { stepping result self.new ≡ heard time begins piece.now self.old }
         ensures within { result.used ≤ length piece.now }
     {
-        let stage = self.stage.take();
-        if let Stage::Body { frame, left: 0 } = stage {
-            self.stage = StageRecord::new(Stage::Between);
-            return HeardStep {
-                used: 0,
-                heard: Heard::Ends(frame),
-            };
+        match self.stage.left() {
+            Some(0) => self.end_frame(),
+            Some(left) => self.pass(left, piece, time),
+            None => self.take_head(piece, time, begins),
         }
+    }
+
+    /// The frame ends of whose body nothing is left.
+    #[inline(always)]
+    fn end_frame(&mut self) -> HeardStep
+        ensures reported { stepping result self.new ≡ ended_in self.old.stage self.old }
+        ensures within { result.used ≡ 0 }
+    {
+        match self.stage.take() {
+            Stage::Body { frame, left: _ } => {
+                self.stage = StageRecord::new(Stage::Between);
+                HeardStep {
+                    used: 0,
+                    heard: Heard::Ends(frame),
+                }
+            }
+            stage => {
+                self.stage = StageRecord::new(stage);
+                HeardStep {
+                    used: 0,
+                    heard: Heard::More,
+                }
+            }
+        }
+    }
+
+    /// What the next bytes are where no body passes.
+    #[inline(always)]
+    fn take_head(&mut self, piece: &[u8], time: Option<u64>, begins: bool) -> HeardStep
+        requires { left_in self.old.stage ≡ None }
+        ensures reported { stepping result self.new ≡ heard time begins piece.now self.old }
+        ensures within { result.used ≤ length piece.now }
+    {
         if piece.is_empty() {
-            self.stage = StageRecord::new(stage);
             return HeardStep {
                 used: 0,
                 heard: Heard::More,
             };
         }
-        match stage {
+        match self.stage.take() {
             Stage::Lost => self.seek(piece, time, begins),
             Stage::Between => {
                 let at = self.position;
                 self.fill(HeaderFront::new(), at, time, piece, time)
             }
             Stage::Header { front, at, begun } => self.fill(front, at, begun, piece, time),
-            Stage::Body { frame, left } => self.pass(frame, left, piece, time),
+            Stage::Body { frame, left } => {
+                self.stage = StageRecord::new(Stage::Body { frame, left });
+                HeardStep {
+                    used: 0,
+                    heard: Heard::More,
+                }
+            }
+        }
+    }
+
+    /// The header of the frame that lies whole in these bytes from the first on, if it is between two frames and one does.
+    #[inline(always)]
+    pub(crate) fn whole_head(&self, piece: &[u8]) -> Option<Header>
+        ensures { IfSome result (λ h. IsWholeHead h piece.now self.now) }
+    {
+        if piece.len() < 9 || !self.stage.is_between() {
+            return None;
+        }
+        match read_head(first_nine(piece), self.responses) {
+            Some(header) => {
+                if header.length as usize <= piece.len() - 9 {
+                    Some(header)
+                } else {
+                    None
+                }
+            }
+            None => None,
+        }
+    }
+
+    /// The frame passes that lies whole in the next bytes, which came at this time.
+    #[inline(always)]
+    pub(crate) fn pass_frame(&mut self, header: Header, time: Option<u64>) -> Frame
+        ensures { closing (Some result) self.new ≡ passed_frame header time self.old }
+    {
+        let at = self.position;
+        self.count(9);
+        self.count(header.length as u64);
+        Frame {
+            header,
+            at,
+            begun: time,
+            ended: time,
+            extent: Extent::Whole,
         }
     }
 
@@ -307,21 +379,23 @@ impl Heads {
         }
     }
 
-    /// Takes bytes of a body.
+    /// Takes bytes of a body, of which so many are still to come.
     #[inline(always)]
-    fn pass(&mut self, frame: Frame, left: u32, piece: &[u8], time: Option<u64>) -> HeardStep
-        ensures reported { stepping result self.new ≡ passed frame left time piece.now self.old }
+    fn pass(&mut self, left: u32, piece: &[u8], time: Option<u64>) -> HeardStep
+        requires is { left_in self.old.stage ≡ Some left }
+        requires some { 0 < left }
+        ensures reported { (begins : Bool) → stepping result self.new ≡ heard time begins piece.now self.old }
         ensures within { result.used ≤ length piece.now }
     {
+        if piece.is_empty() {
+            return HeardStep {
+                used: 0,
+                heard: Heard::More,
+            };
+        }
         let used = piece.len().min(left as usize);
         self.count(used as u64);
-        self.stage = StageRecord::new(Stage::Body {
-            frame: Frame {
-                ended: time,
-                ..frame
-            },
-            left: left - used as u32,
-        });
+        self.stage.pass(used as u32, time);
         HeardStep {
             used,
             heard: Heard::Body,

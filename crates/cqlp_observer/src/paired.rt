@@ -38,6 +38,7 @@ impl<T> Paired<T> {
     ghost use Rattle.cqlp_observer.specs.Pairings.{alone, exchange};
 
     /// Of a message that is in no exchange.
+    #[inline(always)]
     pub(crate) fn alone(message: Message<T>) -> Self
         ensures { result ≡ alone message }
     {
@@ -49,6 +50,7 @@ impl<T> Paired<T> {
     }
 
     /// Of a request and its response, whichever came first.
+    #[inline(always)]
     pub(crate) fn exchange(first: Message<T>, second: Message<T>) -> Self
         ensures { result ≡ exchange first second }
     {

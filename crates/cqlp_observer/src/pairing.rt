@@ -135,7 +135,7 @@ impl<T: Drop, A: Allocator + Clone> Pairing<T, A> {
     }
 
     /// Takes the next frame as `take` does, whose place is known.
-    #[inline]
+    #[inline(always)]
     pub(crate) fn take_at(
         &mut self,
         place: Result<usize, usize>,
@@ -169,7 +169,7 @@ impl<T: Drop, A: Allocator + Clone> Pairing<T, A> {
     }
 
     /// A message comes after the one at a place, which waited under its stream id.
-    #[inline]
+    #[inline(always)]
     fn meet(&mut self, at: usize, second: Message<T>) -> Option<Paired<T>>
         requires { IsPlaced (id_of second) self.old (Ok at) }
         ensures { (has_room : Bool) → paired result self.new

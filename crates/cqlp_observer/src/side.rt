@@ -1,7 +1,7 @@
 //! One side of a connection.
 
-ghost use Rattle.std.specs.Prelude.{◌≡◌, ◌≤◌, IfOk, None, Some, false, true, drop, length};
-ghost use Rattle.cqlp_observer.specs.Directions.{passed_whole};
+ghost use Rattle.std.specs.Prelude.{◌≡◌, ◌≤◌, ◌+◌, IfOk, IfSome, None, Some, false, true, drop, length};
+ghost use Rattle.cqlp_observer.specs.Directions.{IsWholeHead, passed_whole};
 
 use crate::heads::{Heads, Heard};
 use crate::kept::{Front, Kept};
@@ -56,6 +56,7 @@ impl<A: Allocator + Clone> Present<A> {
     ghost use Rattle.cqlp_observer.specs.Passing.{begun_with, broken, kept_in, read_on};
 
     /// A message with this header, of whose body nothing came.
+    #[inline(always)]
     fn new(alloc: A, header: &Header) -> Self
         ensures { result ≡ begun_with header.now }
     {
@@ -111,7 +112,8 @@ impl<A: Allocator> Model for Side<A> {
 impl<A: Allocator + Clone> Side<A> {
     ghost use Rattle.cqlp_observer.specs.Openings.{is_between, opening_in};
     ghost use Rattle.cqlp_observer.specs.Passing.{begun_with, broken_if, kept_in, read_on, read_on_if};
-    ghost use Rattle.cqlp_observer.specs.Speakers.{after_end, after_gap, begins, closed, ending, ends_at_once, heard, hearing, is_keeping, silent, speaker};
+    ghost use Rattle.cqlp_observer.specs.Speakers.{after_end, after_frame, after_gap, begins, closed, ending, ends_at_once};
+    ghost use Rattle.cqlp_observer.specs.Speakers.{heard, hearing, is_keeping, silent, speaker};
 
     /// A side that sent nothing yet: that of the responses, or that of the requests. Its first byte begins a frame, where `from_start`.
     pub(crate) fn new(alloc: A, responses: bool, from_start: bool) -> Self
@@ -182,6 +184,32 @@ impl<A: Allocator + Clone> Side<A> {
         }
     }
 
+    /// The header of the frame that lies whole in these bytes from the first on, if it is between two frames and one does.
+    #[inline(always)]
+    pub(crate) fn whole_head(&self, piece: &[u8]) -> Option<Header>
+        ensures { IfSome result (λ h. IsWholeHead h piece.now self.now.heads) }
+    {
+        self.heads.whole_head(piece)
+    }
+
+    /// The message of the frame with this header that lies whole in the next bytes, which came at this time.
+    #[inline(always)]
+    pub(crate) fn take_frame(
+        &mut self,
+        header: Header,
+        piece: &[u8],
+        time: Option<u64>,
+    ) -> Result<Message<Kept<A>>, AllocError>
+        requires { 9 + header.length ≤ length piece.now }
+        ensures { IfOk result (λ m. ending (Some m) self.new ≡ after_frame header time piece.now self.old) }
+    {
+        self.present = None;
+        let end = 9 + header.length as usize;
+        let kept = self.kept_of_whole(header, &piece[9..end])?;
+        let frame = self.heads.pass_frame(header, time);
+        Ok(Message { frame, kept })
+    }
+
     /// So many bytes did not come, which passed at this time, where that is known: the frame that ends there.
     pub(crate) fn gap(
         &mut self,
@@ -248,7 +276,7 @@ impl<A: Allocator + Clone> Side<A> {
         ensures within { IfOk result (λ step. step.used ≡ end) }
     {
         self.present = None;
-        let kept = self.kept_of_whole(header, body)?;
+        let kept = self.kept_of_whole(*header, body)?;
         let message = match self.heads.pass_whole(time) {
             Some(frame) => Some(Message { frame, kept }),
             None => None,
@@ -257,11 +285,11 @@ impl<A: Allocator + Clone> Side<A> {
     }
 
     /// What is kept of a message with this header and body.
-    #[inline(always)]
-    fn kept_of_whole(&self, header: &Header, body: &[u8]) -> Result<Kept<A>, AllocError>
-        ensures { IfOk result (λ k. k ≡ kept_in (read_on body.now (begun_with header.now))) }
+    #[inline(never)]
+    fn kept_of_whole(&self, header: Header, body: &[u8]) -> Result<Kept<A>, AllocError>
+        ensures { IfOk result (λ k. k ≡ kept_in (read_on body.now (begun_with header))) }
     {
-        let mut present = Present::new(self.alloc.clone()?, header);
+        let mut present = Present::new(self.alloc.clone()?, &header);
         present.keep(body)?;
         present.into_kept(self.alloc.clone()?)
     }

@@ -61,6 +61,7 @@ impl Model for StageRecord {
 
 impl StageRecord {
     ghost use Rattle.cqlp_observer.specs.declared.heads.Stage.TheVariants as stage;
+    ghost use Rattle.cqlp_observer.specs.Directions.{left_in, passed_by};
     ghost use Rattle.cqlp_observer.specs.Openings.{is_between};
 
     #[inline(always)]
@@ -93,6 +94,30 @@ impl StageRecord {
         ensures left { self.new ≡ stage.Lost }
     {
         stage_of(mem::replace(&mut self.parts, StageParts::Lost))
+    }
+
+    /// How many bytes are still to come of the body that passes, if one does.
+    #[inline(always)]
+    pub(crate) fn left(&self) -> Option<u32>
+        ensures { result ≡ left_in self.now }
+    {
+        match &self.parts {
+            StageParts::Body { passing } => Some(passing.left),
+            _ => None,
+        }
+    }
+
+    /// So many bytes come of the body that passes, at this time.
+    #[inline(always)]
+    pub(crate) fn pass(&mut self, used: u32, time: Option<u64>)
+        ensures { self.new ≡ passed_by used time self.old }
+    {
+        if let StageParts::Body { passing } = &mut self.parts {
+            let (is_known, ended) = parts_of(time);
+            passing.ended = ended;
+            passing.is_ended_known = is_known;
+            passing.left = passing.left.saturating_sub(used);
+        }
     }
 
     #[inline(always)]

@@ -1,6 +1,6 @@
 //! Both sides of one connection.
 
-ghost use Rattle.std.specs.Prelude.{◌≡◌, ◌≤◌, IfOk, length};
+ghost use Rattle.std.specs.Prelude.{◌≡◌, ◌≤◌, ◌+◌, IfOk, IfSome, length};
 ghost use Rattle.std.specs.Option.{option_copied};
 ghost use Rattle.cqlp_observer.specs.Watches.{recounted, text_in, reported_text};
 
@@ -14,6 +14,7 @@ use crate::paired::Paired;
 use crate::pairing::{Fate, Pairing, fate_of};
 use crate::room::WatchRoom;
 use crate::side::{Side, SideStep};
+use cqlp_note::Header;
 use std::alloc::{AllocError, Allocator, Global};
 use std::marker::Model;
 
@@ -58,11 +59,14 @@ impl<A: Allocator> Model for Watch<A> {
 
 impl<A: Allocator + Clone> Watch<A> {
     ghost use Rattle.std.specs.Prelude.{Some};
+    ghost use Rattle.cqlp_observer.specs.Directions.{IsWholeHead};
     ghost use Rattle.cqlp_observer.specs.Messages.{id_of};
+    ghost use Rattle.cqlp_observer.specs.Speakers.{after_frame};
     ghost use Rattle.cqlp_observer.specs.Nothing.{has_nothing};
     ghost use Rattle.cqlp_observer.specs.Pairings.{IsPlaced};
-    ghost use Rattle.cqlp_observer.specs.Watches.{after_end, after_gap, begun, finished, fitted, fitting, heard, is_keeping_on, new_watched, opening_of};
-    ghost use Rattle.cqlp_observer.specs.Watches.{paired_if, read, reading, report_then, settled, stepping, with_recount};
+    ghost use Rattle.cqlp_observer.specs.Watches.{after_end, after_gap, begun, ended_by, finished, fitted, fitting};
+    ghost use Rattle.cqlp_observer.specs.Watches.{heard, heard_by, is_keeping_on, new_watched, opening_of};
+    ghost use Rattle.cqlp_observer.specs.Watches.{paired_if, read, reading, report_then, settled, side_of, stepping, with_recount};
 
     /// A connection of which nothing was seen. Takes no memory beside what clones of `alloc` do.
     ///
@@ -117,13 +121,7 @@ impl<A: Allocator + Clone> Watch<A> {
         }
         let opening = self.opening(responses, piece);
         self.missed.count_opening(opening)?;
-        let step = self.read(responses, piece, time, begins, room)?;
-        Ok(WatchStep {
-            used: step.used,
-            is_done: step.is_done,
-            opening,
-            reported: self.pair(step.message, room)?,
-        })
+        self.hear(responses, piece, time, begins, room, opening)
     }
 
     /// So many bytes of a direction did not come, which passed at this time, where that is known.
@@ -201,6 +199,92 @@ impl<A: Allocator + Clone> Watch<A> {
         ensures { result ≡ self.now.missed }
     {
         self.missed.missed()
+    }
+
+    /// What the next bytes of a direction report, which begins so or goes on.
+    #[inline(always)]
+    fn hear(
+        &mut self,
+        responses: bool,
+        piece: &[u8],
+        time: Option<u64>,
+        begins: bool,
+        room: WatchRoom,
+        opening: Opening,
+    ) -> Result<WatchStep<A>, AllocError>
+        ensures reported { IfOk result (λ step. stepping step self.new
+            ≡ heard_by opening (read responses time begins piece.now room self.old) room) }
+        ensures within { IfOk result (λ step. step.used ≤ length piece.now) }
+    {
+        match self.whole_head(responses, piece) {
+            Some(header) => Ok(WatchStep {
+                used: 9 + header.length as usize,
+                is_done: false,
+                opening,
+                reported: self.take_frame(responses, header, piece, time, room)?,
+            }),
+            None => self.hear_part(responses, piece, time, begins, room, opening),
+        }
+    }
+
+    /// What the next bytes of a direction report, where no frame lies whole in them.
+    #[inline(never)]
+    fn hear_part(
+        &mut self,
+        responses: bool,
+        piece: &[u8],
+        time: Option<u64>,
+        begins: bool,
+        room: WatchRoom,
+        opening: Opening,
+    ) -> Result<WatchStep<A>, AllocError>
+        ensures reported { IfOk result (λ step. stepping step self.new
+            ≡ heard_by opening (read responses time begins piece.now room self.old) room) }
+        ensures within { IfOk result (λ step. step.used ≤ length piece.now) }
+    {
+        let step = self.read(responses, piece, time, begins, room)?;
+        Ok(WatchStep {
+            used: step.used,
+            is_done: step.is_done,
+            opening,
+            reported: self.pair(step.message, room)?,
+        })
+    }
+
+    /// The header of the frame of a direction that lies whole in its next bytes from the first on, if it is between two frames and one does.
+    #[inline(always)]
+    fn whole_head(&self, responses: bool, piece: &[u8]) -> Option<Header>
+        ensures { IfSome result (λ h. IsWholeHead h piece.now (side_of responses self.now).heads) }
+    {
+        if responses {
+            self.responses.whole_head(piece)
+        } else {
+            self.requests.whole_head(piece)
+        }
+    }
+
+    /// The frame with this header lies whole in the next bytes of a direction, which came at this time: pairs its message.
+    #[inline(never)]
+    fn take_frame(
+        &mut self,
+        responses: bool,
+        header: Header,
+        piece: &[u8],
+        time: Option<u64>,
+        room: WatchRoom,
+    ) -> Result<Option<Paired<Kept<A>>>, AllocError>
+        requires { 9 + header.length ≤ length piece.now }
+        ensures { IfOk result (λ reported. report_then reported self.new
+            ≡ ended_by responses (after_frame header time piece.now (side_of responses self.old)) room self.old) }
+    {
+        let was_keeping = self.is_keeping(responses);
+        let message = if responses {
+            self.responses.take_frame(header, piece, time)?
+        } else {
+            self.requests.take_frame(header, piece, time)?
+        };
+        self.recount(responses, room, was_keeping);
+        self.pair_one(message, room)
     }
 
     /// Whether these are no bytes, and the direction is between two frames: then nothing more is reported.
@@ -281,7 +365,7 @@ impl<A: Allocator + Clone> Watch<A> {
     }
 
     /// Pairs a message that has ended, if one has.
-    #[inline(always)]
+    #[inline(never)]
     fn pair(
         &mut self,
         message: Option<Message<Kept<A>>>,
@@ -296,7 +380,7 @@ impl<A: Allocator + Clone> Watch<A> {
     }
 
     /// Pairs a message that has ended.
-    #[inline]
+    #[inline(always)]
     fn pair_one(
         &mut self,
         message: Message<Kept<A>>,
@@ -311,7 +395,7 @@ impl<A: Allocator + Clone> Watch<A> {
     }
 
     /// The message as it is paired, whose place is known, where there is room for one more that waits, or none: what becomes of it is counted.
-    #[inline]
+    #[inline(always)]
     fn settle(
         &mut self,
         place: Result<usize, usize>,

@@ -93,6 +93,7 @@ impl<T> MessageRecord<T> {
     }
 
     /// Whether it and the next under its stream id are a request and its response, as [`Message::meets`] says.
+    #[inline(always)]
     pub(crate) fn meets(&self, next: &Message<T>) -> bool {
         let frame = self.frame.frame();
         if frame.header.response {

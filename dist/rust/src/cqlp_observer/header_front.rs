@@ -49,7 +49,7 @@ impl HeaderFront {
 
 /// The header that nine bytes are in this direction. Its frame may be compressed.
 #[inline(always)]
-fn read_head(bytes: &[u8; 9], responses: bool) -> Option<Header> {
+pub(crate) fn read_head(bytes: &[u8; 9], responses: bool) -> Option<Header> {
     let flags = bytes[1];
     let mut plain = *bytes;
     plain[1] = flags & 0xFE;
@@ -57,4 +57,10 @@ fn read_head(bytes: &[u8; 9], responses: bool) -> Option<Header> {
         Ok(header) if header.response == responses => Some(Header { flags, ..header }),
         _ => None,
     }
+}
+
+/// The first nine bytes.
+#[inline(always)]
+pub(crate) fn first_nine(bytes: &[u8]) -> &[u8; 9] {
+    bytes.first_chunk().unwrap()
 }

@@ -1,7 +1,7 @@
 // Written by dist/erase from crates/cqlp_observer/src/heads.rt.
 //! The frames of one direction, by their headers.
 
-use crate::cqlp_observer::header_front::HeaderFront;
+use crate::cqlp_observer::header_front::{HeaderFront, first_nine, read_head};
 use crate::cqlp_observer::message::{Extent, Frame};
 use crate::cqlp_observer::opening::{Opening, opening_with};
 use crate::cqlp_observer::stage_record::StageRecord;
@@ -82,29 +82,90 @@ impl Heads {
     /// with the bytes that were not used, until it says `More`.
     #[inline(always)]
     pub fn take(&mut self, piece: &[u8], time: Option<u64>, begins: bool) -> HeardStep {
-        let stage = self.stage.take();
-        if let Stage::Body { frame, left: 0 } = stage {
-            self.stage = StageRecord::new(Stage::Between);
-            return HeardStep {
-                used: 0,
-                heard: Heard::Ends(frame),
-            };
+        match self.stage.left() {
+            Some(0) => self.end_frame(),
+            Some(left) => self.pass(left, piece, time),
+            None => self.take_head(piece, time, begins),
         }
+    }
+
+    /// The frame ends of whose body nothing is left.
+    #[inline(always)]
+    fn end_frame(&mut self) -> HeardStep {
+        match self.stage.take() {
+            Stage::Body { frame, left: _ } => {
+                self.stage = StageRecord::new(Stage::Between);
+                HeardStep {
+                    used: 0,
+                    heard: Heard::Ends(frame),
+                }
+            }
+            stage => {
+                self.stage = StageRecord::new(stage);
+                HeardStep {
+                    used: 0,
+                    heard: Heard::More,
+                }
+            }
+        }
+    }
+
+    /// What the next bytes are where no body passes.
+    #[inline(always)]
+    fn take_head(&mut self, piece: &[u8], time: Option<u64>, begins: bool) -> HeardStep {
         if piece.is_empty() {
-            self.stage = StageRecord::new(stage);
             return HeardStep {
                 used: 0,
                 heard: Heard::More,
             };
         }
-        match stage {
+        match self.stage.take() {
             Stage::Lost => self.seek(piece, time, begins),
             Stage::Between => {
                 let at = self.position;
                 self.fill(HeaderFront::new(), at, time, piece, time)
             }
             Stage::Header { front, at, begun } => self.fill(front, at, begun, piece, time),
-            Stage::Body { frame, left } => self.pass(frame, left, piece, time),
+            Stage::Body { frame, left } => {
+                self.stage = StageRecord::new(Stage::Body { frame, left });
+                HeardStep {
+                    used: 0,
+                    heard: Heard::More,
+                }
+            }
+        }
+    }
+
+    /// The header of the frame that lies whole in these bytes from the first on, if it is between two frames and one does.
+    #[inline(always)]
+    pub(crate) fn whole_head(&self, piece: &[u8]) -> Option<Header> {
+        if piece.len() < 9 || !self.stage.is_between() {
+            return None;
+        }
+        match read_head(first_nine(piece), self.responses) {
+            Some(header) => {
+                if header.length as usize <= piece.len() - 9 {
+                    Some(header)
+                } else {
+                    None
+                }
+            }
+            None => None,
+        }
+    }
+
+    /// The frame passes that lies whole in the next bytes, which came at this time.
+    #[inline(always)]
+    pub(crate) fn pass_frame(&mut self, header: Header, time: Option<u64>) -> Frame {
+        let at = self.position;
+        self.count(9);
+        self.count(header.length as u64);
+        Frame {
+            header,
+            at,
+            begun: time,
+            ended: time,
+            extent: Extent::Whole,
         }
     }
 
@@ -269,18 +330,18 @@ impl Heads {
         }
     }
 
-    /// Takes bytes of a body.
+    /// Takes bytes of a body, of which so many are still to come.
     #[inline(always)]
-    fn pass(&mut self, frame: Frame, left: u32, piece: &[u8], time: Option<u64>) -> HeardStep {
+    fn pass(&mut self, left: u32, piece: &[u8], time: Option<u64>) -> HeardStep {
+        if piece.is_empty() {
+            return HeardStep {
+                used: 0,
+                heard: Heard::More,
+            };
+        }
         let used = piece.len().min(left as usize);
         self.count(used as u64);
-        self.stage = StageRecord::new(Stage::Body {
-            frame: Frame {
-                ended: time,
-                ..frame
-            },
-            left: left - used as u32,
-        });
+        self.stage.pass(used as u32, time);
         HeardStep {
             used,
             heard: Heard::Body,

@@ -35,6 +35,7 @@ pub enum Paired<T> {
 
 impl<T> Paired<T> {
     /// Of a message that is in no exchange.
+    #[inline(always)]
     pub(crate) fn alone(message: Message<T>) -> Self {
         if message.is_request() {
             Paired::Unanswered { request: message }
@@ -44,6 +45,7 @@ impl<T> Paired<T> {
     }
 
     /// Of a request and its response, whichever came first.
+    #[inline(always)]
     pub(crate) fn exchange(first: Message<T>, second: Message<T>) -> Self {
         if first.is_request() {
             Paired::Exchange {

@@ -96,7 +96,7 @@ impl<T, A: Allocator + Clone> Pairing<T, A> {
     }
 
     /// Takes the next frame as `take` does, whose place is known.
-    #[inline]
+    #[inline(always)]
     pub(crate) fn take_at(
         &mut self,
         place: Result<usize, usize>,
@@ -125,7 +125,7 @@ impl<T, A: Allocator + Clone> Pairing<T, A> {
     }
 
     /// A message comes after the one at a place, which waited under its stream id.
-    #[inline]
+    #[inline(always)]
     fn meet(&mut self, at: usize, second: Message<T>) -> Option<Paired<T>> {
         if self.waiting[at].meets(&second) {
             let first = self.waiting.remove(at)?;

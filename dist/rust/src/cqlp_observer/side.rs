@@ -41,6 +41,7 @@ pub(crate) struct SideStep<A: Allocator> {
 
 impl<A: Allocator + Clone> Present<A> {
     /// A message with this header, of whose body nothing came.
+    #[inline(always)]
     fn new(alloc: A, header: &Header) -> Self {
         Present {
             front: Front::new(alloc),
@@ -133,6 +134,27 @@ impl<A: Allocator + Clone> Side<A> {
         }
     }
 
+    /// The header of the frame that lies whole in these bytes from the first on, if it is between two frames and one does.
+    #[inline(always)]
+    pub(crate) fn whole_head(&self, piece: &[u8]) -> Option<Header> {
+        self.heads.whole_head(piece)
+    }
+
+    /// The message of the frame with this header that lies whole in the next bytes, which came at this time.
+    #[inline(always)]
+    pub(crate) fn take_frame(
+        &mut self,
+        header: Header,
+        piece: &[u8],
+        time: Option<u64>,
+    ) -> Result<Message<Kept<A>>, AllocError> {
+        self.present = None;
+        let end = 9 + header.length as usize;
+        let kept = self.kept_of_whole(header, &piece[9..end])?;
+        let frame = self.heads.pass_frame(header, time);
+        Ok(Message { frame, kept })
+    }
+
     /// So many bytes did not come, which passed at this time, where that is known: the frame that ends there.
     pub(crate) fn gap(
         &mut self,
@@ -188,7 +210,7 @@ impl<A: Allocator + Clone> Side<A> {
         body: &[u8],
     ) -> Result<SideStep<A>, AllocError> {
         self.present = None;
-        let kept = self.kept_of_whole(header, body)?;
+        let kept = self.kept_of_whole(*header, body)?;
         let message = match self.heads.pass_whole(time) {
             Some(frame) => Some(Message { frame, kept }),
             None => None,
@@ -197,9 +219,9 @@ impl<A: Allocator + Clone> Side<A> {
     }
 
     /// What is kept of a message with this header and body.
-    #[inline(always)]
-    fn kept_of_whole(&self, header: &Header, body: &[u8]) -> Result<Kept<A>, AllocError> {
-        let mut present = Present::new(self.alloc.clone()?, header);
+    #[inline(never)]
+    fn kept_of_whole(&self, header: Header, body: &[u8]) -> Result<Kept<A>, AllocError> {
+        let mut present = Present::new(self.alloc.clone()?, &header);
         present.keep(body)?;
         present.into_kept(self.alloc.clone()?)
     }

@@ -73,6 +73,26 @@ impl StageRecord {
         stage_of(mem::replace(&mut self.parts, StageParts::Lost))
     }
 
+    /// How many bytes are still to come of the body that passes, if one does.
+    #[inline(always)]
+    pub(crate) fn left(&self) -> Option<u32> {
+        match &self.parts {
+            StageParts::Body { passing } => Some(passing.left),
+            _ => None,
+        }
+    }
+
+    /// So many bytes come of the body that passes, at this time.
+    #[inline(always)]
+    pub(crate) fn pass(&mut self, used: u32, time: Option<u64>) {
+        if let StageParts::Body { passing } = &mut self.parts {
+            let (is_known, ended) = parts_of(time);
+            passing.ended = ended;
+            passing.is_ended_known = is_known;
+            passing.left = passing.left.saturating_sub(used);
+        }
+    }
+
     #[inline(always)]
     pub(crate) fn is_between(&self) -> bool {
         matches!(self.parts, StageParts::Between)

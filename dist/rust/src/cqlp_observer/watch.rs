@@ -12,6 +12,7 @@ use crate::cqlp_observer::paired::Paired;
 use crate::cqlp_observer::pairing::{Fate, Pairing, fate_of};
 use crate::cqlp_observer::room::WatchRoom;
 use crate::cqlp_observer::side::{Side, SideStep};
+use crate::cqlp_note::Header;
 use crate::kit_std::alloc::{AllocError, Allocator, Global};
 
 /// What both sides of one connection say to each other, out of the bytes and gaps of its two directions, as they come.
@@ -89,13 +90,7 @@ impl<A: Allocator + Clone> Watch<A> {
         }
         let opening = self.opening(responses, piece);
         self.missed.count_opening(opening)?;
-        let step = self.read(responses, piece, time, begins, room)?;
-        Ok(WatchStep {
-            used: step.used,
-            is_done: step.is_done,
-            opening,
-            reported: self.pair(step.message, room)?,
-        })
+        self.hear(responses, piece, time, begins, room, opening)
     }
 
     /// So many bytes of a direction did not come, which passed at this time, where that is known.
@@ -161,6 +156,78 @@ impl<A: Allocator + Clone> Watch<A> {
     /// What was missed so far, since it was made.
     pub fn missed(&self) -> Missed {
         self.missed.missed()
+    }
+
+    /// What the next bytes of a direction report, which begins so or goes on.
+    #[inline(always)]
+    fn hear(
+        &mut self,
+        responses: bool,
+        piece: &[u8],
+        time: Option<u64>,
+        begins: bool,
+        room: WatchRoom,
+        opening: Opening,
+    ) -> Result<WatchStep<A>, AllocError> {
+        match self.whole_head(responses, piece) {
+            Some(header) => Ok(WatchStep {
+                used: 9 + header.length as usize,
+                is_done: false,
+                opening,
+                reported: self.take_frame(responses, header, piece, time, room)?,
+            }),
+            None => self.hear_part(responses, piece, time, begins, room, opening),
+        }
+    }
+
+    /// What the next bytes of a direction report, where no frame lies whole in them.
+    #[inline(never)]
+    fn hear_part(
+        &mut self,
+        responses: bool,
+        piece: &[u8],
+        time: Option<u64>,
+        begins: bool,
+        room: WatchRoom,
+        opening: Opening,
+    ) -> Result<WatchStep<A>, AllocError> {
+        let step = self.read(responses, piece, time, begins, room)?;
+        Ok(WatchStep {
+            used: step.used,
+            is_done: step.is_done,
+            opening,
+            reported: self.pair(step.message, room)?,
+        })
+    }
+
+    /// The header of the frame of a direction that lies whole in its next bytes from the first on, if it is between two frames and one does.
+    #[inline(always)]
+    fn whole_head(&self, responses: bool, piece: &[u8]) -> Option<Header> {
+        if responses {
+            self.responses.whole_head(piece)
+        } else {
+            self.requests.whole_head(piece)
+        }
+    }
+
+    /// The frame with this header lies whole in the next bytes of a direction, which came at this time: pairs its message.
+    #[inline(never)]
+    fn take_frame(
+        &mut self,
+        responses: bool,
+        header: Header,
+        piece: &[u8],
+        time: Option<u64>,
+        room: WatchRoom,
+    ) -> Result<Option<Paired<Kept<A>>>, AllocError> {
+        let was_keeping = self.is_keeping(responses);
+        let message = if responses {
+            self.responses.take_frame(header, piece, time)?
+        } else {
+            self.requests.take_frame(header, piece, time)?
+        };
+        self.recount(responses, room, was_keeping);
+        self.pair_one(message, room)
     }
 
     /// Whether these are no bytes, and the direction is between two frames: then nothing more is reported.
@@ -230,7 +297,7 @@ impl<A: Allocator + Clone> Watch<A> {
     }
 
     /// Pairs a message that has ended, if one has.
-    #[inline(always)]
+    #[inline(never)]
     fn pair(
         &mut self,
         message: Option<Message<Kept<A>>>,
@@ -243,7 +310,7 @@ impl<A: Allocator + Clone> Watch<A> {
     }
 
     /// Pairs a message that has ended.
-    #[inline]
+    #[inline(always)]
     fn pair_one(
         &mut self,
         message: Message<Kept<A>>,
@@ -256,7 +323,7 @@ impl<A: Allocator + Clone> Watch<A> {
     }
 
     /// The message as it is paired, whose place is known, where there is room for one more that waits, or none: what becomes of it is counted.
-    #[inline]
+    #[inline(always)]
     fn settle(
         &mut self,
         place: Result<usize, usize>,
