@@ -1,7 +1,7 @@
 #!/usr/bin/env python3
 """captures/objects.py FILE COMMAND..: prints what is wrong with the objects (--json) and the summary (--summary) that `cqlp capture` writes of a
 capture, beside its lines, which lines.py reads in another way. Each object has to say what its line says, all the same first moment, and those of a
-connection the same ends; and each statement of the summary what its lines add up to, and with --by each client, node, opcode and error."""
+connection the same ends; and each statement of the summary what its lines add up to, and with --by each client, node, opcode and error, also as JSON."""
 import collections
 import datetime
 import json
@@ -118,12 +118,13 @@ def milliseconds(nanoseconds):
     return f"{nanoseconds // 1_000_000}.{nanoseconds // 1_000 % 1_000:03}"
 
 
-def rows_by(what, objects):
-    """The numbers of each row of a summary by this, but for the share and the percentiles."""
-    found = collections.defaultdict(lambda: ([0, 0, 0, 0, 0], []))
+def counted_by(what, objects):
+    """The counts of each name of a summary by this, the nanoseconds that each exchange took, and when each request began."""
+    found = collections.defaultdict(lambda: ([0, 0, 0, 0, 0], [], []))
     for of in objects:
         if of["told"] in ("exchange", "unanswered"):
-            numbers, times = found[name_by(what, of)]
+            numbers, times, begun = found[name_by(what, of)]
+            begun.extend([of["utc"]] if of["utc"] else [])
             is_unanswered = of["told"] == "unanswered"
             is_error = not is_unanswered and (of["response"] == "ERROR" or of["took"] is None)
             sizes = of["request_bytes"] + of.get("response_bytes", 0)
@@ -131,7 +132,43 @@ def rows_by(what, objects):
                 numbers[at] += more
             if of["took"] is not None and Decimal(of["took"]) >= 0:
                 times.append(int(Decimal(of["took"]) * 1_000_000_000))
-    return {name: [milliseconds(sum(times)), *map(str, numbers), milliseconds(max(times)) if times else "-"] for name, (numbers, times) in found.items()}
+    return found
+
+
+def rows_by(what, objects):
+    """The numbers of each row of a summary by this, but for the share and the percentiles."""
+    return {name: [milliseconds(sum(times)), *map(str, numbers), milliseconds(max(times)) if times else "-"]
+            for name, (numbers, times, _) in counted_by(what, objects).items()}
+
+
+def seconds(nanoseconds):
+    return Decimal(nanoseconds) / 1_000_000_000
+
+
+def greatest_beside(time):
+    """The greatest time of those that have their first six binary digits in common with this one."""
+    dropped = max(time.bit_length() - 6, 0)
+    return ((time >> dropped) + 1 << dropped) - 1
+
+
+def objects_by(what, objects):
+    """The objects of a summary by this, by their names."""
+    found = {}
+    for name, (numbers, times, begun) in counted_by(what, objects).items():
+        ordered, buckets = sorted(times), collections.Counter(map(greatest_beside, times))
+        at = lambda hundredths: seconds(min(greatest_beside(ordered[-(-len(ordered) * hundredths // 100) - 1]), ordered[-1])) if ordered else None
+        found[name] = {
+            "by": what, "name": name, "name_is_whole": True, **dict(zip(("count", "errors", "unanswered", "rows", "bytes"), numbers)),
+            "first": min(begun, default=None), "last": max(begun, default=None), "time": seconds(sum(times)), "missing": 0,
+            "p50": at(50), "p95": at(95), "p99": at(99), "max": seconds(ordered[-1]) if ordered else None,
+            "buckets": [[seconds(time), count] for time, count in sorted(buckets.items())],
+        }
+    return found
+
+
+def read_objects(texts):
+    objects = [json.loads(text, parse_float=Decimal) for text in texts]
+    return {of["name"]: of for of in objects}
 
 
 def rows_of(summary):
@@ -164,6 +201,9 @@ def main(file, *command):
         (heading, *rows), said_of_rows = written(command, file, "--summary", "--by", what)
         if said_of_rows != said or heading.split()[11:] != [what] or rows_of(rows) != rows_by(what, objects):
             print(f"by {what}: {rows_of(rows)}\n{rows_by(what, objects)}")
+        counts, said_of_counts = written(command, file, "--summary", "--by", what, "--json")
+        if said_of_counts != said or read_objects(counts) != objects_by(what, objects):
+            print(f"by {what} as JSON: {counts}\n{objects_by(what, objects)}")
 
 
 if __name__ == "__main__":

@@ -11,3 +11,4 @@ pub mod Texts
 pub mod WrittenOnce
 pub mod Pooled
 mod Parts
+mod SummaryObjects

@@ -14,23 +14,27 @@ use Rattle.cqlp_capture_exchanges.specs.Reports.{Report}
 use Rattle.cqlp_capture_exchanges.specs.Lines.{line}
 use Rattle.cqlp_capture_exchanges.specs.Notings.{with_report}
 use Rattle.cqlp_capture_exchanges.specs.Objects.{json_line}
+use Rattle.cqlp_capture_exchanges.specs.SummaryObjects.{summary_objects}
 
 -- what is written of a report
 abbrev pub text_of : ExchangeForm → (known : List Preparation) → (first : Option ℕ) → Connection → Report → List ℕ
 text_of form.Lines known first n r = line known first n.number r
 text_of form.Json known first n r = json_line known first n r
 text_of (form.Summary b) known first n r = []
+text_of (form.SummaryJson b) known first n r = []
 
 -- what is counted, how many names are distinguished, and what is written at the end
 abbrev pub noted_in : ExchangeForm → (known : List Preparation) → Connection → Report → Summary → Summary
 noted_in form.Lines known n r s = s
 noted_in form.Json known n r s = s
 noted_in (form.Summary b) known n r s = with_report b known n r s
+noted_in (form.SummaryJson b) known n r s = with_report b known n r s
 
 abbrev pub statements_in : ExchangeForm → ℕ
 statements_in form.Lines = 0
 statements_in form.Json = 0
 statements_in (form.Summary b) = 256
+statements_in (form.SummaryJson b) = 256
 
 abbrev pub attribute_heading : Attribute → List ℕ
 attribute_heading attribute.Client = codes "client"
@@ -46,3 +50,4 @@ abbrev pub ending_of : ExchangeForm → Summary → List ℕ
 ending_of form.Lines s = []
 ending_of form.Json s = []
 ending_of (form.Summary b) s = summary_text (heading_of b) s
+ending_of (form.SummaryJson b) s = summary_objects (heading_of b) s

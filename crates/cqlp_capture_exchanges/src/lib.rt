@@ -28,6 +28,7 @@ mod slot;
 mod span;
 mod statement;
 mod summary_by;
+mod summary_objects;
 mod sums;
 mod table;
 

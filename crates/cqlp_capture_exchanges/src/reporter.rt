@@ -3,6 +3,7 @@
 ghost use Rattle.std.specs.Prelude.{◌≡◌, [], ◌∷◌, IsSome};
 ghost use Rattle.cqlp_text.specs.Written.{Writes};
 ghost use Rattle.cqlp_capture_summary.specs.Lines.{summary_text};
+ghost use Rattle.cqlp_capture_exchanges.specs.SummaryObjects.{summary_objects};
 ghost use Rattle.cqlp_capture_exchanges.specs.Forms.{ending_of, text_of};
 ghost use Rattle.cqlp_text.specs.Outputs.{written};
 ghost use Rattle.cqlp_capture_exchanges.specs.Reports.{report_of};
@@ -15,6 +16,7 @@ use crate::noting::note;
 use crate::object::put_json_line;
 use crate::prepared::{Preparation, add_known, is_news};
 use crate::report::{ConnectionEnd, Report, is_unread};
+use crate::summary_objects::put_summary_objects;
 use crate::sums::ExchangeSums;
 use cqlp_capture_streams::StreamsFault;
 use cqlp_capture_summary::Summary;
@@ -242,6 +244,7 @@ fn put_report<W: Target, A: Allocator, B: Allocator>(
         ExchangeForm::Lines => put_line(writer, known, first, connection.number, report),
         ExchangeForm::Json => put_json_line(writer, known, first, connection, report),
         ExchangeForm::Summary(_) => Ok(()),
+        ExchangeForm::SummaryJson(_) => Ok(()),
     }
 }
 
@@ -260,6 +263,7 @@ fn put_ending<W: Target, A: Allocator>(
         ExchangeForm::Lines => Ok(()),
         ExchangeForm::Json => Ok(()),
         ExchangeForm::Summary(by) => put_summary(writer, by.heading(), summary),
+        ExchangeForm::SummaryJson(by) => put_objects(writer, by.heading(), summary),
     }
 }
 
@@ -273,5 +277,18 @@ fn put_summary<W: Target, A: Allocator>(
     ensures passed { writer.new.waiting ≡ [] }
 {
     summary.put(writer, heading)?;
+    writer.pass_on()
+}
+
+/// Takes the objects of a summary of these names, and passes them on.
+fn put_objects<W: Target, A: Allocator>(
+    writer: &mut TextWriter<Buffered<W, A>>,
+    by: &str,
+    summary: &Summary<A>,
+) -> Result<(), SinkFault>
+    ensures text { Writes writer.old (summary_objects by.now summary.now) result writer.new }
+    ensures passed { writer.new.waiting ≡ [] }
+{
+    put_summary_objects(writer, by, summary)?;
     writer.pass_on()
 }

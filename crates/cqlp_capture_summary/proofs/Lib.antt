@@ -4,7 +4,7 @@ mod Bounds
 mod Entries
 mod Heaviest
 mod Lightest
-mod Lists
+pub mod Lists
 mod Literals
 mod Merges
 mod Names

@@ -254,7 +254,7 @@ fn put_name<P: Pen>(
 }
 
 /// The longest front of bytes that is UTF-8.
-fn text_front(bytes: &[u8]) -> &str
+pub(crate) fn text_front(bytes: &[u8]) -> &str
     ensures { result.now ≡ text_front bytes.now }
 {
     match str::from_utf8(bytes) {

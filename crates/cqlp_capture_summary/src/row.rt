@@ -1,5 +1,9 @@
 //! What is shown of a statement.
 
+ghost use Rattle.std.specs.Prelude.{◌≡◌};
+ghost use Rattle.cqlp_capture_summary.specs.Lines.{text_front};
+
+use crate::lines::text_front;
 use crate::tally::Figures;
 
 /// What is shown of a statement in a summary.
@@ -14,4 +18,13 @@ pub struct Row<'a> {
     pub figures: Figures,
     /// How many of its times are in each of the 1,920 buckets, whose greatest times are `greatest_in`.
     pub buckets: &'a [u64],
+}
+
+impl<'a> Row<'a> {
+    /// The longest front of the name that is UTF-8.
+    pub fn text(&self) -> &'a str
+        ensures { result.now ≡ text_front self.now.name.now }
+    {
+        text_front(self.name)
+    }
 }

@@ -220,7 +220,8 @@ impl<A: Allocator> Summary<A> {
 
     /// What is shown of the statement at a place.
     pub fn row(&self, place: usize) -> Option<Row<'_>>
-        ensures { MatchOption result (length self.now.names ≤ place) (λ row. IsRowAt self.now place row) }
+        ensures row { MatchOption result (length self.now.names ≤ place) (λ row. IsRowAt self.now place row) }
+        ensures buckets { IfSome result (λ row. length row.buckets.now ≡ 1920) }
     {
         if place >= self.names.len() {
             return None;
@@ -240,6 +241,14 @@ impl<A: Allocator> Summary<A> {
         ensures { result ≡ figures_of self.now.others }
     {
         self.others[0].figures()
+    }
+
+    /// How many of their times are in each of the 1,920 buckets.
+    pub fn others_buckets(&self) -> &[u64]
+        ensures is { result.now ≡ self.now.others.buckets }
+        ensures length { length result.now ≡ 1920 }
+    {
+        self.others[0].buckets()
     }
 
     /// Writes a line for each statement, the one that took most time in sum first, and a line for all others. Above the names is this heading.

@@ -110,7 +110,8 @@ impl Tally {
     }
 
     pub(crate) fn buckets(&self) -> &[u64]
-        ensures { result.now ≡ self.now.buckets }
+        ensures is { result.now ≡ self.now.buckets }
+        ensures length { length result.now ≡ 1920 }
     {
         &self.buckets
     }

@@ -134,9 +134,10 @@ is_literal b = false
 abbrev pub IsSummaryBy : List Row → SummaryBy → Type 0
 IsSummaryBy rows b = (by_word rows ≡ by_name b) × IsFlag (codes "literal") rows (is_literal b)
 
--- where both are asked for it is a summary
+-- each request, or a summary of them, as lines or as JSON
 abbrev pub IsExchangesForm : List Row → ExchangesAs → Type 0
-IsExchangesForm rows (exchanges_as.Summary b) = IsFlag (codes "summary") rows true × IsSummaryBy rows b
+IsExchangesForm rows (exchanges_as.Summary b) = IsFlag (codes "summary") rows true × IsFlag (codes "json") rows false × IsSummaryBy rows b
+IsExchangesForm rows (exchanges_as.SummaryJson b) = IsFlag (codes "summary") rows true × IsFlag (codes "json") rows true × IsSummaryBy rows b
 IsExchangesForm rows exchanges_as.Json = IsFlag (codes "summary") rows false × IsFlag (codes "json") rows true
 IsExchangesForm rows exchanges_as.Lines = IsFlag (codes "summary") rows false × IsFlag (codes "json") rows false
 

@@ -333,6 +333,7 @@ fn form_of(asked: ExchangesAs) -> ExchangeForm
         ExchangesAs::Lines => ExchangeForm::Lines,
         ExchangesAs::Json => ExchangeForm::Json,
         ExchangesAs::Summary(by) => ExchangeForm::Summary(summary_by(by)),
+        ExchangesAs::SummaryJson(by) => ExchangeForm::SummaryJson(summary_by(by)),
     }
 }
 

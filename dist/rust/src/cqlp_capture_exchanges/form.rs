@@ -12,6 +12,8 @@ pub enum ExchangeForm {
     Json,
     /// A line for each name at the end of the capture, by which requests are counted: how many there were, and how long they took.
     Summary(SummaryBy),
+    /// Likewise a JSON object in a line for each name.
+    SummaryJson(SummaryBy),
 }
 
 impl ExchangeForm {
@@ -21,6 +23,7 @@ impl ExchangeForm {
             ExchangeForm::Lines => 0,
             ExchangeForm::Json => 0,
             ExchangeForm::Summary(_) => 256,
+            ExchangeForm::SummaryJson(_) => 256,
         }
     }
 }

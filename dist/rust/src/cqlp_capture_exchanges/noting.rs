@@ -34,6 +34,7 @@ pub(crate) fn note<A: Allocator, B: Allocator>(
         ExchangeForm::Lines => {}
         ExchangeForm::Json => {}
         ExchangeForm::Summary(by) => note_report(summary, by, known, connection, report),
+        ExchangeForm::SummaryJson(by) => note_report(summary, by, known, connection, report),
     }
 }
 

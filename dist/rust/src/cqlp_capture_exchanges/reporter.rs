@@ -10,6 +10,7 @@ use crate::cqlp_capture_exchanges::noting::note;
 use crate::cqlp_capture_exchanges::object::put_json_line;
 use crate::cqlp_capture_exchanges::prepared::{Preparation, add_known, is_news};
 use crate::cqlp_capture_exchanges::report::{ConnectionEnd, Report, is_unread};
+use crate::cqlp_capture_exchanges::summary_objects::put_summary_objects;
 use crate::cqlp_capture_exchanges::sums::ExchangeSums;
 use crate::cqlp_capture_streams::StreamsFault;
 use crate::cqlp_capture_summary::Summary;
@@ -187,6 +188,7 @@ fn put_report<W: Target, A: Allocator, B: Allocator>(
         ExchangeForm::Lines => put_line(writer, known, first, connection.number, report),
         ExchangeForm::Json => put_json_line(writer, known, first, connection, report),
         ExchangeForm::Summary(_) => Ok(()),
+        ExchangeForm::SummaryJson(_) => Ok(()),
     }
 }
 
@@ -200,6 +202,7 @@ fn put_ending<W: Target, A: Allocator>(
         ExchangeForm::Lines => Ok(()),
         ExchangeForm::Json => Ok(()),
         ExchangeForm::Summary(by) => put_summary(writer, by.heading(), summary),
+        ExchangeForm::SummaryJson(by) => put_objects(writer, by.heading(), summary),
     }
 }
 
@@ -210,5 +213,15 @@ fn put_summary<W: Target, A: Allocator>(
     summary: &Summary<A>,
 ) -> Result<(), SinkFault> {
     summary.put(writer, heading)?;
+    writer.pass_on()
+}
+
+/// Takes the objects of a summary of these names, and passes them on.
+fn put_objects<W: Target, A: Allocator>(
+    writer: &mut TextWriter<Buffered<W, A>>,
+    by: &str,
+    summary: &Summary<A>,
+) -> Result<(), SinkFault> {
+    put_summary_objects(writer, by, summary)?;
     writer.pass_on()
 }

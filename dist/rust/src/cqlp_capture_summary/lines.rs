@@ -200,7 +200,7 @@ fn put_name<P: Pen>(
 }
 
 /// The longest front of bytes that is UTF-8.
-fn text_front(bytes: &[u8]) -> &str {
+pub(crate) fn text_front(bytes: &[u8]) -> &str {
     match str::from_utf8(bytes) {
         Ok(text) => text,
         // SAFETY: the bytes up to there are UTF-8.

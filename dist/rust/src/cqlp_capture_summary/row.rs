@@ -1,6 +1,7 @@
 // Written by dist/erase from crates/cqlp_capture_summary/src/row.rt.
 //! What is shown of a statement.
 
+use crate::cqlp_capture_summary::lines::text_front;
 use crate::cqlp_capture_summary::tally::Figures;
 
 /// What is shown of a statement in a summary.
@@ -15,4 +16,11 @@ pub struct Row<'a> {
     pub figures: Figures,
     /// How many of its times are in each of the 1,920 buckets, whose greatest times are `greatest_in`.
     pub buckets: &'a [u64],
+}
+
+impl<'a> Row<'a> {
+    /// The longest front of the name that is UTF-8.
+    pub fn text(&self) -> &'a str {
+        text_front(self.name)
+    }
 }

@@ -177,6 +177,11 @@ impl<A: Allocator> Summary<A> {
         self.others[0].figures()
     }
 
+    /// How many of their times are in each of the 1,920 buckets.
+    pub fn others_buckets(&self) -> &[u64] {
+        self.others[0].buckets()
+    }
+
     /// Writes a line for each statement, the one that took most time in sum first, and a line for all others. Above the names is this heading.
     pub fn put<P: Pen>(&self, writer: &mut TextWriter<P>, heading: &str) -> Result<(), SinkFault> {
         let known = &self.tallies[..self.names.len()];

@@ -59,15 +59,21 @@ pub enum ExchangesAs {
     Json,
     /// A line at the end for each of what they are counted by.
     Summary(SummaryBy),
+    /// Likewise a JSON object in a line.
+    SummaryJson(SummaryBy),
 }
 
 impl ExchangesAs {
     fn matched(matches: &ArgMatches<'_>) -> Result<ExchangesAs, BadValue> {
+        let is_json = flag(matches, "json");
         if flag(matches, "summary") {
             let by = SummaryBy::matched(matches)?;
+            if is_json {
+                return Ok(ExchangesAs::SummaryJson(by));
+            }
             return Ok(ExchangesAs::Summary(by));
         }
-        if flag(matches, "json") {
+        if is_json {
             Ok(ExchangesAs::Json)
         } else {
             Ok(ExchangesAs::Lines)

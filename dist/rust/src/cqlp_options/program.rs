@@ -411,7 +411,7 @@ const CAPTURE: [Word; 23] = [
     Word {
         name: "json",
         form: Form::Flag,
-        help: "Write each request with its reply as a JSON object in a line of its own",
+        help: "Write each request with its reply as a JSON object in a line of its own; with --summary each line of it",
         with: &[],
         without: &["streams"],
     },
@@ -421,7 +421,7 @@ const CAPTURE: [Word; 23] = [
         help: "A line for each statement at the end: how often it was asked for and how long it took, the one that took \
             most time first",
         with: &[],
-        without: &["streams", "json"],
+        without: &["streams"],
     },
     Word {
         name: "by",
@@ -429,7 +429,7 @@ const CAPTURE: [Word; 23] = [
         help: "With --summary, count requests by this: client (its address), node, opcode, error (of the reply) or statement \
             [default: statement]",
         with: &["summary"],
-        without: &["streams", "json", "events", "rows"],
+        without: &["streams", "events", "rows"],
     },
     Word {
         name: "literal",
