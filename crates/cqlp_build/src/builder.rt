@@ -152,6 +152,14 @@ impl FrameBuilder {
         self.header.is_none()
     }
 
+    /// How many bytes of texts and contents may still come of the frame under way.
+    #[must_use]
+    pub fn room(&self) -> usize
+        ensures { result ≡ (state self.now).room }
+    {
+        self.room
+    }
+
     /// A frame begins.
     fn begin(&mut self, header: Header) -> Result<Option<BuiltFrame>, BuildError>
         ensures { TakesEvent (state self.old) (model.Frame header) result (state self.new) }

@@ -21,3 +21,4 @@ pub mod Lent
 pub mod OneEvent
 pub mod WholeCells
 pub mod Refusals
+pub mod CellPages

@@ -48,7 +48,7 @@ fit_parts true true p q = refl
 fit_parts false b p q = absurd cc
 fit_parts true false p q = absurd cc
 
-size_most : (v : ScalarValue) → scalar_size v ≤ length (content_of v)
+pub size_most : (v : ScalarValue) → scalar_size v ≤ length (content_of v)
 size_most (Custom c) = omega arith
 size_most (Ascii c) = omega arith
 size_most (Blob c) = omega arith

@@ -8,4 +8,6 @@ pub mod PageLaws
 pub mod Begun
 pub mod Put
 pub mod Single
+pub mod Bare
 pub mod BatchLaws
+pub mod CellPages

@@ -96,6 +96,14 @@ impl Composer {
         Ok(())
     }
 
+    /// How many bytes of texts and contents may still come.
+    #[must_use]
+    pub fn room(&self) -> usize
+        ensures { result ≡ (composed self.now).frame.room }
+    {
+        self.builder.room()
+    }
+
     /// The frame that has these events.
     ///
     /// # Errors

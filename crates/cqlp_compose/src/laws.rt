@@ -2,6 +2,7 @@
 
 ghost use Rattle.cqlp_compose.specs.Laws.{OneAnswerOfClose, OneAnswerOfTake, OneAnswerOfWrite};
 ghost use Rattle.cqlp_compose.specs.PageLaws.{OneAnswer as OneAnswerOfCells, PageHasItsEvents, PageIsBuilt};
+ghost use Rattle.cqlp_compose.specs.CellPages.{CellPageIsComposed, OneCellPage};
 ghost use Rattle.cqlp_compose.specs.BatchLaws.{BatchesAreComposed, OneAnswer as OneAnswerOfPut, OneAnswerOfBegin, PageIsComposed, PageIsWritten};
 
 /// An event has one answer and leaves one state; or memory was refused, and nothing changed.
@@ -43,6 +44,13 @@ pub fn one_answer_of_begin()
 /// nothing is put.
 pub fn one_answer_of_put()
     ensures { OneAnswerOfPut }
+{}
+
+/// Of the events of a page whose cells are each one event the same bytes are written, which are those that a [`Composer`](crate::Composer) writes
+/// of them; or memory is refused.
+pub fn one_cell_page()
+    ensures page { OneCellPage }
+    ensures composed { CellPageIsComposed }
 {}
 
 /// A page that is begun, whose cells are all put in batches, and that has ended: what was written in all is the frame that has these events.

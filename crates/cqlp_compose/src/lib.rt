@@ -2,6 +2,7 @@
 //! some at a time ([`PageCells`]), and such a page in batches into a caller's buffers ([`OpenPage`], [`PutCells`]).
 #![tactic(auto)]
 
+mod bare;
 mod cells;
 mod column;
 mod composer;
@@ -16,6 +17,7 @@ mod put;
 mod scalar;
 mod single;
 
+pub use bare::{BarePage, put_event, scalar_size};
 pub use cells::{PageCells, WrittenCells};
 pub use composer::Composer;
 pub use cqlp_build_cells::CellLimits;

@@ -6,6 +6,7 @@ ghost use Rattle.cqlp_message.specs.Owned.{frame_of, message_of};
 ghost use Rattle.cqlp_compose.specs.Begun as model;
 ghost use Rattle.cqlp_compose.specs.Begun.{Begins, BeginsBare, IsBare, SetsRows, ends, is_page, with_rows};
 
+use crate::bare::BarePage;
 use crate::composer::Composer;
 use crate::error::{BeginError, HeadError, Unended};
 use crate::head::page_head;
@@ -68,8 +69,8 @@ impl OpenPage {
     ) -> Result<BegunPage, BeginError>
         ensures { Begins (composed composer) rows cells_len result }
     {
-        match bare_page(composer, rows) {
-            Ok(frame) => begun(alloc, frame, said_len(cells_len)),
+        match BarePage::new(composer, rows) {
+            Ok(page) => page.begin(alloc, cells_len),
             Err(why) => Err(why),
         }
     }
@@ -108,7 +109,7 @@ impl OpenPage {
 }
 
 /// How many bytes the cells are said to have. No body has as many as do not fit.
-fn said_len(cells_len: u64) -> u32
+pub(crate) fn said_len(cells_len: u64) -> u32
     ensures { result ≡ model.said_len cells_len }
 {
     cells_len.min(u64::from(u32::MAX)) as u32
@@ -116,7 +117,7 @@ fn said_len(cells_len: u64) -> u32
 
 /// A page without cells, begun with cells of this many bytes.
 #[tactic(auto, using(crate::proofs::Beginning::no_place, crate::proofs::Beginning::a_place))]
-fn begun(alloc: Global, frame: Frame, cells_len: u32) -> Result<BegunPage, BeginError>
+pub(crate) fn begun(alloc: Global, frame: Frame, cells_len: u32) -> Result<BegunPage, BeginError>
     ensures { BeginsBare (frame_of frame) cells_len result }
 {
     let place = match PageProgress::start(&frame, cells_len) {
@@ -135,7 +136,7 @@ fn begun(alloc: Global, frame: Frame, cells_len: u32) -> Result<BegunPage, Begin
 
 /// The page of as many rows and without cells whose other events came to a composer.
 #[tactic(auto, using(crate::proofs::Beginning::count_refused, crate::proofs::Beginning::closed_ok, crate::proofs::Beginning::closed_err))]
-fn bare_page(mut composer: Composer, rows: u32) -> Result<Frame, BeginError>
+pub(crate) fn bare_page(mut composer: Composer, rows: u32) -> Result<Frame, BeginError>
     ensures { IsBare (composed composer) rows result }
 {
     let none = Event::Count {

@@ -249,7 +249,7 @@ impl<'a> PutCells<'a> {
 
 /// Whether this is the row and the column of the cell before which so many have come, of a page of so many columns.
 #[inline]
-fn is_at(cells: u64, columns: u32, row: u32, column: u32) -> bool
+pub(crate) fn is_at(cells: u64, columns: u32, row: u32, column: u32) -> bool
     ensures is { IsTrue result → (row ≡ cells / columns) × (column ≡ cells % columns) }
     ensures all { 0 < columns → row ≡ cells / columns → column ≡ cells % columns → IsTrue result }
 {

@@ -130,6 +130,12 @@ impl FrameBuilder {
         self.header.is_none()
     }
 
+    /// How many bytes of texts and contents may still come of the frame under way.
+    #[must_use]
+    pub fn room(&self) -> usize {
+        self.room
+    }
+
     /// A frame begins.
     fn begin(&mut self, header: Header) -> Result<Option<BuiltFrame>, BuildError> {
         if self.header.is_some() {

@@ -76,6 +76,12 @@ impl Composer {
         Ok(())
     }
 
+    /// How many bytes of texts and contents may still come.
+    #[must_use]
+    pub fn room(&self) -> usize {
+        self.builder.room()
+    }
+
     /// The frame that has these events.
     ///
     /// # Errors

@@ -2,6 +2,7 @@
 //! Frames and pages of the CQL native protocol v4, written of their events: a frame as a whole ([`Composer`]), the cells of a page of any size
 //! some at a time ([`PageCells`]), and such a page in batches into a caller's buffers ([`OpenPage`], [`PutCells`]).
 
+mod bare;
 mod cells;
 mod column;
 mod composer;
@@ -15,6 +16,8 @@ mod put;
 mod scalar;
 mod single;
 
+pub use bare::{BarePage, scalar_size};
+pub(crate) use bare::{put_event};
 pub use cells::{PageCells, WrittenCells};
 pub use composer::Composer;
 pub use crate::cqlp_build_cells::CellLimits;

@@ -2,6 +2,7 @@
 //! Pages that are begun.
 
 use crate::kit_std::prelude::{Vec};
+use crate::cqlp_compose::bare::BarePage;
 use crate::cqlp_compose::composer::Composer;
 use crate::cqlp_compose::error::{BeginError, HeadError, Unended};
 use crate::cqlp_compose::head::page_head;
@@ -59,8 +60,8 @@ impl OpenPage {
         rows: u32,
         cells_len: u64,
     ) -> Result<BegunPage, BeginError> {
-        match bare_page(composer, rows) {
-            Ok(frame) => begun(alloc, frame, said_len(cells_len)),
+        match BarePage::new(composer, rows) {
+            Ok(page) => page.begin(alloc, cells_len),
             Err(why) => Err(why),
         }
     }
@@ -93,12 +94,12 @@ impl OpenPage {
 }
 
 /// How many bytes the cells are said to have. No body has as many as do not fit.
-fn said_len(cells_len: u64) -> u32 {
+pub(crate) fn said_len(cells_len: u64) -> u32 {
     cells_len.min(u64::from(u32::MAX)) as u32
 }
 
 /// A page without cells, begun with cells of this many bytes.
-fn begun(alloc: Global, frame: Frame, cells_len: u32) -> Result<BegunPage, BeginError> {
+pub(crate) fn begun(alloc: Global, frame: Frame, cells_len: u32) -> Result<BegunPage, BeginError> {
     let place = match PageProgress::start(&frame, cells_len) {
         Ok(place) => place,
         Err(why) => return Err(BeginError::Unfit(why)),
@@ -114,7 +115,7 @@ fn begun(alloc: Global, frame: Frame, cells_len: u32) -> Result<BegunPage, Begin
 }
 
 /// The page of as many rows and without cells whose other events came to a composer.
-fn bare_page(mut composer: Composer, rows: u32) -> Result<Frame, BeginError> {
+pub(crate) fn bare_page(mut composer: Composer, rows: u32) -> Result<Frame, BeginError> {
     let none = Event::Count {
         field: Field::Rows,
         count: 0,

@@ -196,6 +196,6 @@ impl<'a> PutCells<'a> {
 
 /// Whether this is the row and the column of the cell before which so many have come, of a page of so many columns.
 #[inline]
-fn is_at(cells: u64, columns: u32, row: u32, column: u32) -> bool {
+pub(crate) fn is_at(cells: u64, columns: u32, row: u32, column: u32) -> bool {
     column < columns && u64::from(row) * u64::from(columns) + u64::from(column) == cells
 }
