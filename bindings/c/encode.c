@@ -5,7 +5,7 @@
  * what is written is read as these events, and what is refused has written nothing. Events, contents and bytes lie at edges. */
 #include "give.h"
 
-enum { MOST = 128, LONG = 4096 };
+enum { MOST = 160, LONG = 4096 };
 
 /* The events of a frame, and their contents one after the other. */
 typedef struct frame {
@@ -515,6 +515,88 @@ static void refuse_pages(void) {
   }
 }
 
+/* ---- pages whose cells are each one event */
+
+/* A page with a trace, a warning and a payload, of three rows: a value of each kind without inner types, nulls, and empty values. */
+static void make_plain(frame *frame) {
+  static const cqlp_event VALUES[] = {
+    {.kind = CQLP_KIND_CUSTOM, .length = 1}, {.kind = CQLP_KIND_ASCII, .length = 2}, {.kind = CQLP_KIND_BIGINT, .number = -7},
+    {.kind = CQLP_KIND_BLOB, .length = 1}, {.kind = CQLP_KIND_BOOLEAN, .number = 1}, {.kind = CQLP_KIND_COUNTER, .number = 7},
+    {.kind = CQLP_KIND_DECIMAL, .extra = 3, .length = 2}, {.kind = CQLP_KIND_DOUBLE, .bytes = {0x40}}, {.kind = CQLP_KIND_FLOAT, .bytes = {0x41}},
+    {.kind = CQLP_KIND_INT, .number = -1}, {.kind = CQLP_KIND_TIMESTAMP, .number = 5}, {.kind = CQLP_KIND_UUID, .bytes = {0xAB}},
+    {.kind = CQLP_KIND_VARCHAR, .length = 3}, {.kind = CQLP_KIND_VARINT, .length = 1}, {.kind = CQLP_KIND_TIMEUUID, .bytes = {[6] = 0x10}},
+    {.kind = CQLP_KIND_INET, .octets = 4, .bytes = {127, 0, 0, 1}}, {.kind = CQLP_KIND_DATE, .number = 9}, {.kind = CQLP_KIND_TIME, .number = 9},
+    {.kind = CQLP_KIND_SMALLINT, .number = -9}, {.kind = CQLP_KIND_TINYINT, .number = -9},
+  };
+  enum { KINDS = sizeof VALUES / sizeof *VALUES };
+  frame->count = frame->length = 0;
+  append(frame, (cqlp_event){.tag = CQLP_TAG_FRAME, .opcode = CQLP_OPCODE_RESULT, .extra = 7, .mark = CQLP_MARK_RESPONSE, .flags = 2 | 4 | 8});
+  append(frame, (cqlp_event){.tag = CQLP_TAG_UUID, .field = CQLP_FIELD_TRACE_ID});
+  append_number(frame, CQLP_TAG_COUNT, CQLP_FIELD_WARNINGS, 1);
+  append_text(frame, CQLP_FIELD_WARNING);
+  append_number(frame, CQLP_TAG_COUNT, CQLP_FIELD_PAYLOAD_ITEMS, 1);
+  append_text(frame, CQLP_FIELD_PAYLOAD_KEY);
+  append(frame, (cqlp_event){.tag = CQLP_TAG_BYTES, .field = CQLP_FIELD_PAYLOAD_VALUE, .mark = CQLP_MARK_NULL});
+  append_number(frame, CQLP_TAG_INT, CQLP_FIELD_RESULT_KIND, CQLP_RESULT_ROWS);
+  append_number(frame, CQLP_TAG_INT, CQLP_FIELD_META_FLAGS, 1);
+  append_number(frame, CQLP_TAG_COUNT, CQLP_FIELD_COLUMNS, KINDS);
+  append_table(frame);
+  for (size_t i = 0; i < KINDS; i++) {
+    append_text(frame, CQLP_FIELD_COLUMN_NAME);
+    append_kind(frame, VALUES[i].kind);
+    if (VALUES[i].kind == CQLP_KIND_CUSTOM) append_text(frame, CQLP_FIELD_CLASS);
+  }
+  append_number(frame, CQLP_TAG_COUNT, CQLP_FIELD_ROWS, 3);
+  for (uint32_t row = 0; row < 3; row++)
+    for (uint32_t i = 0; i < KINDS; i++) {
+      cqlp_event cell = VALUES[i];
+      if (row > 0) cell = (cqlp_event){0};
+      cell.tag = row == 0 ? CQLP_TAG_LEAF : row == 1 ? CQLP_TAG_NULL : CQLP_TAG_EMPTY;
+      cell.row = row;
+      cell.column = i;
+      append(frame, cell);
+      for (size_t n = 0; n < cell.length; n++) frame->contents[frame->length++] = (uint8_t)('0' + n);
+    }
+}
+
+/* What becomes of such a page, and of others that are one step from it; where it is written, with no byte of room to spare, and not with one less. */
+static void write_plain(void) {
+  static const char *const CASES[] = {
+    "a plain page", "a plain page with an end", "a wrong kind at the last value", "a row less", "a cell more", "a cell less", "a byte more", "a byte less",
+    "an item at the end", "two ends",
+  };
+  for (size_t i = 0; i < sizeof CASES / sizeof *CASES; i++) {
+    static frame frame;
+    uint8_t *bytes;
+    cqlp_encoded encoded;
+    make_plain(&frame);
+    size_t value = frame.count - 41;
+    switch (i) {
+      case 1: append(&frame, (cqlp_event){.tag = CQLP_TAG_END}); break;
+      case 2: frame.events[value].kind = CQLP_KIND_SMALLINT; break;
+      case 3: frame.events[value - 20].number = 2; break;
+      case 4: append(&frame, (cqlp_event){.tag = CQLP_TAG_NULL, .row = 3}); break;
+      case 5: frame.count--; break;
+      case 6: frame.length++; break;
+      case 7: frame.length--; break;
+      case 8: append(&frame, (cqlp_event){.tag = CQLP_TAG_LEAVE}); break;
+      case 9:
+        append(&frame, (cqlp_event){.tag = CQLP_TAG_END});
+        append(&frame, (cqlp_event){.tag = CQLP_TAG_END});
+        break;
+      default: break;
+    }
+    uint32_t code = encode(&frame, LONG, &bytes, &encoded);
+    printf("%s: %s at %zu of %zu\n", CASES[i], cqlp_name(CQLP_GROUP_CODE, code), encoded.event, frame.count);
+    if (code != CQLP_DONE) continue;
+    size_t length = encoded.length;
+    check_read(&frame, bytes, length);
+    CHECK(encode(&frame, length - 1, &bytes, &encoded) == CQLP_NO_ROOM && encoded.length == length);
+    CHECK(encode(&frame, length, &bytes, &encoded) == CQLP_DONE && encoded.length == length);
+    check_read(&frame, bytes, length);
+  }
+}
+
 static size_t bytes_of(const char *digits, uint8_t *bytes, size_t room) {
   size_t count = 0;
   unsigned byte;
@@ -543,6 +625,7 @@ int main(int count, char **words) {
   prepare_deep(64);
   refuse_each();
   refuse_pages();
+  write_plain();
   if (count > 2) state = strtoull(words[2], NULL, 10) | 1;
   write_changed(count > 1 ? strtoul(words[1], NULL, 10) : 100000);
   for (size_t i = 0; i < sizeof codes / sizeof *codes; i++)

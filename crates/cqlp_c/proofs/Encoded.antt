@@ -27,7 +27,7 @@ on_ok n (Ok m) f k e = (m, refl, e)
 on_ok n (Err why) f k e = absurd cc
 
 module _ (ds : List CqlpEvent) (k : Taken) where
-  all_append : (n : ℕ) (t : Taken) (cs : List CqlpEvent) → after_all n t cs ≡ Ok k → after_all n t (cs ++ ds) ≡ after_all (n + length cs) k ds
+  pub all_append : (n : ℕ) (t : Taken) (cs : List CqlpEvent) → after_all n t cs ≡ Ok k → after_all n t (cs ++ ds) ≡ after_all (n + length cs) k ds
   all_append n t [] e =
       let same : t ≡ k = cc in
       let here : n ≡ n + 0 = omega arith in
@@ -131,7 +131,7 @@ module _ (cs : List CqlpEvent) (contents : List ℕ) (s : ComposerState) (rest :
   none_left e = all ∙ ap (λ (r : List ℕ). Ok (s, r)) e
 
   pub encoded_by : (bytes : List ℕ) → rest ≡ [] → IsWrittenOf s.frame.events bytes → IsEncoded cs contents bytes
-  encoded_by bytes e w = (s, none_left e, w)
+  encoded_by bytes e w = (s, none_left e, inl w)
 
   ended : (why : BuildError) → rest ≡ [] → IsOfNone s.frame.events why
       → (after_all 0 (at_first contents) cs ≡ Err (record { event = length cs; why = unencoded.Refused why }))

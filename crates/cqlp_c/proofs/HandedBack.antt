@@ -6,14 +6,14 @@ use Rattle.cqlp_note.specs.declared.header.Header.{Header}
 use Rattle.cqlp_grammar.specs.Events.{Event, Frame, Holds, Node_of, Cell_at, Leave, End}
 use Rattle.cqlp_build.specs.declared.error.BuildError.{BuildError}
 use Rattle.cqlp_build.specs.Building.{is_inner}
-use Rattle.cqlp_compose.specs.Composing.{ComposerState, IsWrittenOf, refusal_of, start, with_next}
+use Rattle.cqlp_compose.specs.Composing.{ComposerState, refusal_of, start, with_next}
 use Rattle.cqlp_c.specs.declared.encode.Stopped.{Stopped}
 use Rattle.cqlp_c.specs.declared.event.CqlpEvent.{CqlpEvent}
 use Rattle.cqlp_c.specs.EncodeLaws.{AreWritten, CanBeWritten, IsReadAs, after_events}
-use Rattle.cqlp_c.specs.Encoding.{IsEncoded, Taken, after_all, longest, on_from, unless}
+use Rattle.cqlp_c.specs.Encoding.{IsWritten, IsEncoded, Taken, after_all, longest, on_from, unless}
 use Rattle.cqlp_c.specs.Events.{content_of}
 use Rattle.cqlp_c.specs.FromCLaws.{kept}
-use Rattle.cqlp_c.proofs.OneEncoded.{written_reads_back}
+use Rattle.cqlp_c.proofs.AllWritten.{reads_back}
 use Rattle.cqlp_c.proofs.ReadBackAll.{all_back}
 
 abbrev Inner : List Event → Type 0
@@ -72,5 +72,5 @@ module _ (h : Header) (fields : List Event) (extra : ℕ) (cs : List CqlpEvent) 
       let back : after_events 0 (start longest, []) (map kept all) ≡ Ok (x.0, []) =
       sym (all_back all cs 0 (start longest) [] can are) ∙ ap (λ (b : List ℕ). after_all 0 (start longest, b) cs) (append-nil (flat_map content_of all)) ∙ x.1
       in
-      let w = written_reads_back first fields bytes (subst (λ (es : List Event). IsWrittenOf es bytes) (frame_events x.0 i back) x.2) in
+      let w = reads_back first fields bytes (subst (λ (es : List Event). IsWritten es bytes) (frame_events x.0 i back) x.2) in
       record { size = w.size; frame = w.frame; are = w.are; said = w.said }

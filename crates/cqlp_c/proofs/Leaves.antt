@@ -11,7 +11,7 @@ use Rattle.cqlp_c.specs.declared.numbers.TheConstants as numbers
 use Rattle.cqlp_c.specs.declared.from_c.BadEvent.{BadEvent}
 use Rattle.cqlp_c.specs.declared.from_c.BadEvent.TheVariants as bad_event
 use Rattle.cqlp_c.specs.Numbers.{kinds}
-use Rattle.cqlp_c.specs.FromC.{IsLeaf, IsNoLeaf, IsNull, content_len, event_from_c, event_with, found_leaf, is_event}
+use Rattle.cqlp_c.specs.FromC.{IsEmpty, IsLeaf, IsNoLeaf, IsNull, content_len, event_from_c, event_with, found_leaf, is_event}
 use Rattle.cqlp_c.specs.CellFromC.{kind_in, leaf_from_c, scalar_from_c}
 use Rattle.cqlp_c.proofs.Conforming.{kind_conforms}
 use Rattle.cqlp_c.proofs.Written.{lt_false}
@@ -74,3 +74,21 @@ null_read c contents n =
     ap (λ (b : Bool). if b then Err bad_event.Unbuilt else (if nat_lt (length contents) (content_len c) then Err bad_event.NoEvent else is_event (event_with c (take (content_len c) contents)))) no_part
     ∙ ap (λ (b : Bool). if b then Err bad_event.NoEvent else is_event (event_with c (take (content_len c) contents))) long
     ∙ ap is_event (as_null c (take (content_len c) contents) n.0 ∙ ap (λ (l : ℕ). Some (Cell_at c.row c.column (cell.Null l))) n.1)
+
+-- ---- empty values
+
+as_empty : (c : CqlpEvent) (content : List ℕ) → c.tag ≡ numbers.TAG_EMPTY → event_with c content ≡ Some (Cell_at c.row c.column (cell.Empty c.level))
+as_empty c content tag = rw tag refl
+
+pub empty_len : (c : CqlpEvent) → IsEmpty c → content_len c ≡ 0
+empty_len c n = rw n.0 refl
+
+-- its event
+pub empty_read : (c : CqlpEvent) (contents : List ℕ) → IsEmpty c → event_from_c c contents ≡ Ok (Cell_at c.row c.column (cell.Empty 0))
+empty_read c contents n =
+    let no_part : (c.tag == numbers.TAG_PART) ≡ false = ap (λ (t : ℕ). t == numbers.TAG_PART) n.0 in
+    let enough : content_len c ≤ length contents = subst (λ (m : ℕ). m ≤ length contents) (sym (empty_len c n)) (omega arith) in
+    let long : nat_lt (length contents) (content_len c) ≡ false = lt_false (length contents) (content_len c) enough in
+    ap (λ (b : Bool). if b then Err bad_event.Unbuilt else (if nat_lt (length contents) (content_len c) then Err bad_event.NoEvent else is_event (event_with c (take (content_len c) contents)))) no_part
+    ∙ ap (λ (b : Bool). if b then Err bad_event.NoEvent else is_event (event_with c (take (content_len c) contents))) long
+    ∙ ap is_event (as_empty c (take (content_len c) contents) n.0 ∙ ap (λ (l : ℕ). Some (Cell_at c.row c.column (cell.Empty l))) n.1)

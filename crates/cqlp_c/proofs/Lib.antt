@@ -4,6 +4,7 @@ pub mod PagesPut
 pub mod PagesWritten
 pub mod PagesOnce
 pub mod Beginning
+pub mod AllWritten
 pub mod Checked
 pub mod ColumnsFilled
 pub mod Cored
@@ -38,4 +39,6 @@ pub mod There
 pub mod ReadBackAll
 pub mod ReadBack
 pub mod Values
+pub mod WholePages
+pub mod CellWriting
 pub mod Written

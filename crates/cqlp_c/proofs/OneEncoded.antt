@@ -16,7 +16,9 @@ use Rattle.cqlp_build.specs.Building.{HaveNoParts}
 use Rattle.cqlp_build.specs.Closing.{Ends, of_length}
 use Rattle.cqlp_build.proofs.FrameViews.{body_of, body_events, frame_said, none_both}
 use Rattle.cqlp_build.proofs.Finishing.{is_frame_of}
+use Rattle.cqlp_compose.specs.CellPages.{IsFrameOf}
 use Rattle.cqlp_compose.specs.Composing.{ComposerState, IsWrittenOf}
+use Rattle.cqlp_compose.proofs.CellPages.{one_page, page_composed}
 use Rattle.cqlp_compose.proofs.Once.{one_frame, one_reason, only_memory}
 use Rattle.cqlp_decode.specs.Reading.{Says, Waits, start}
 use Rattle.cqlp_laws.proofs.WrittenFrames.{written_is_read}
@@ -27,13 +29,16 @@ use Rattle.cqlp_c.specs.declared.encode.Unencoded.TheVariants as unencoded
 use Rattle.cqlp_c.specs.declared.event.CqlpEvent.{CqlpEvent}
 use Rattle.cqlp_c.specs.declared.numbers.TheConstants as numbers
 use Rattle.cqlp_c.specs.EncodeLaws.{AreWhole, IsReadAs}
-use Rattle.cqlp_c.specs.Encoding.{Encodes, HasNone, IsEncoded, IsUnencodedAt, PutsFrame, PutsNone, StopsFor, Taken, after_all, at_first, code_of_unencoded}
+use Rattle.cqlp_c.specs.Encoding.{Encodes, HasNone, IsEncoded, IsUnencodedAt, IsWritten, PutsFrame, PutsNone, StopsFor, Taken, after_all, at_first, code_of_unencoded}
 use Rattle.cqlp_c.specs.Rooms.{PutsBytes, PutsWhere}
 
 -- ---- the frame
 
-written_once : (es : List Event) (bytes others : List ℕ) → IsWrittenOf es bytes → IsWrittenOf es others → bytes ≡ others
-written_once es bytes others a b = a.are ∙ ap frame_bytes (one_frame es a.frame b.frame a.ends b.ends) ∙ sym b.are
+written_once : (es : List Event) (bytes others : List ℕ) → IsWritten es bytes → IsWritten es others → bytes ≡ others
+written_once es bytes others (inl a) (inl b) = a.are ∙ ap frame_bytes (one_frame es a.frame b.frame a.ends b.ends) ∙ sym b.are
+written_once es bytes others (inl a) (inr b) = (page_composed es others b.frame).0 bytes a
+written_once es bytes others (inr a) (inl b) = sym ((page_composed es bytes a.frame).0 others b)
+written_once es bytes others (inr a) (inr b) = one_page es bytes others a b
 
 -- ---- bytes that are put
 
@@ -69,6 +74,15 @@ none_of_frame s f (unencoded.Refused w) e n = code_by w (only_memory s.frame.eve
 none_of_frame s f (unencoded.BadEvent w) e n = absurd n
 none_of_frame s f unencoded.LeftOver e n = absurd n
 
+none_of_page : (s : ComposerState) (bytes : List ℕ) (why : Unencoded) → IsFrameOf s.frame.events bytes → HasNone (s, []) why → code_of_unencoded why ≡ numbers.NO_MEMORY
+none_of_page s bytes (unencoded.Refused w) p n = code_by w ((page_composed s.frame.events bytes p).1 w n)
+none_of_page s bytes (unencoded.BadEvent w) p n = absurd n
+none_of_page s bytes unencoded.LeftOver p n = absurd n
+
+none_of_written : (s : ComposerState) (bytes : List ℕ) (why : Unencoded) → IsWritten s.frame.events bytes → HasNone (s, []) why → code_of_unencoded why ≡ numbers.NO_MEMORY
+none_of_written s bytes why (inl w) n = none_of_frame s w.frame why w.ends n
+none_of_written s bytes why (inr p) n = none_of_page s bytes why p.frame n
+
 abbrev taken_of : Taken → Result Taken Stopped → Taken
 taken_of t (Ok u) = u
 taken_of t (Err r) = t
@@ -80,7 +94,7 @@ both : (cs : List CqlpEvent) (contents bytes : List ℕ) (r : Stopped) → IsEnc
 both cs contents bytes r x (inl e) = let d : Ok (x.0, []) ≡ Err r = sym x.1 ∙ e in absurd cc
 both cs contents bytes r x (inr y) =
     let same : y.0 ≡ (x.0, []) = same_taken (after_all 0 (at_first contents) cs) y.0 (x.0, []) y.1 x.1 in
-    none_of_frame x.0 x.2.frame r.why x.2.ends (subst (λ (t : Taken). HasNone t r.why) same y.3)
+    none_of_written x.0 bytes r.why x.2 (subst (λ (t : Taken). HasNone t r.why) same y.3)
 
 one_none_left : (s : ComposerState) (a b : Unencoded) → HasNone (s, []) a → HasNone (s, []) b → (code_of_unencoded a ≡ code_of_unencoded b) ⊎ ((code_of_unencoded a ≡ numbers.NO_MEMORY) ⊎ (code_of_unencoded b ≡ numbers.NO_MEMORY))
 one_none_left s (unencoded.Refused a) (unencoded.Refused b) x y = by (one_reason s.frame.events a b x y)
@@ -135,7 +149,7 @@ module _ (cs : List CqlpEvent) (contents before : List ℕ) (a b : ℕ) (one oth
   frames_once x y =
       let alike : (x.1.0, []) ≡ (y.1.0, []) = same_taken (after_all 0 (at_first contents) cs) (x.1.0, []) (y.1.0, []) x.1.1 y.1.1 in
       let left : x.1.0 ≡ y.1.0 = ap (λ (t : Taken). t.0) alike in
-      let bytes : y.0 ≡ x.0 = written_once x.1.0.frame.events y.0 x.0 (subst (λ (s : ComposerState). IsWrittenOf s.frame.events y.0) (sym left) y.1.2) x.1.2 in
+      let bytes : y.0 ≡ x.0 = written_once x.1.0.frame.events y.0 x.0 (subst (λ (s : ComposerState). IsWritten s.frame.events y.0) (sym left) y.1.2) x.1.2 in
       let p = puts_once x.0 before one other a b t.length u.length x.2 (subst (λ (z : List ℕ). PutsBytes z b before other u.length) bytes y.2) in
       inl (p.0.0, p.0.1, encoded_is t u p.1 (x.3 ∙ sym y.3))
 

@@ -178,13 +178,13 @@ module _ (old cells : PutterState) (cs : List CqlpEvent) (contents before room :
 -- ---- in a part of the room
 
 module _ (room : List ℕ) (at : ℕ) where
-  part_is : mid_of at (length room - at) room ≡ drop at room
+  pub part_is : mid_of at (length room - at) room ≡ drop at room
   part_is = take_all (length room - at) (drop at room) (omega (arith, length-drop at room))
 
   none_behind : post_of at (length room - at) room ≡ []
   none_behind = drop_of_length-le (drop at room) (omega (arith, length-drop at room))
 
-  part_put : (bytes part : List ℕ) → part ≡ bytes ++ drop (length bytes) (mid_of at (length room - at) room) → put_mid at (length room - at) room part ≡ take at room ++ (bytes ++ drop (length bytes) (drop at room))
+  pub part_put : (bytes part : List ℕ) → part ≡ bytes ++ drop (length bytes) (mid_of at (length room - at) room) → put_mid at (length room - at) room part ≡ take at room ++ (bytes ++ drop (length bytes) (drop at room))
   part_put bytes part is =
       (λ i. take at room ++ (is i ++ none_behind i)) ∙ (λ i. take at room ++ append-nil (bytes ++ drop (length bytes) (part_is i)) i)
 

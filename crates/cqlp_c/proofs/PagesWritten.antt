@@ -219,7 +219,7 @@ all_calls (b ∷ bs) p q a =
 
 -- ---- the head
 
-none_after : (s : ComposerState) (e : Event) → s.ended ≡ true → refusal_of s e ≡ Some build_error.Misplaced
+pub none_after : (s : ComposerState) (e : Event) → s.ended ≡ true → refusal_of s e ≡ Some build_error.Misplaced
 none_after s e is = ap (λ (b : Bool). if b || not (is_due s.frame.events e) then Some build_error.Misplaced else if is_unbuilt e then Some build_error.Unbuilt else bound_of s.frame e) is
 
 unless_ok : (o : Option BuildError) (t u : Taken) → unless o t ≡ Ok u → (o ≡ None) × (t ≡ u)
@@ -227,11 +227,11 @@ unless_ok None t u e = (refl, cc)
 unless_ok (Some why) t u e = absurd cc
 
 -- an event that is taken, and what is taken after it
-record One (t u : Taken) (c : CqlpEvent) : Type 0 where
-  event : Event
-  written : event_from_c c t.1 ≡ Ok event
-  free : refusal_of t.0 event ≡ None
-  after : (with_next t.0 event, drop (content_len c) t.1) ≡ u
+pub record One (t u : Taken) (c : CqlpEvent) : Type 0 where
+  pub event : Event
+  pub written : event_from_c c t.1 ≡ Ok event
+  pub free : refusal_of t.0 event ≡ None
+  pub after : (with_next t.0 event, drop (content_len c) t.1) ≡ u
 
 one_by : (t u : Taken) (c : CqlpEvent) (r : Result Event BadEvent) → event_from_c c t.1 ≡ r → with_c_event t.0 r (drop (content_len c) t.1) ≡ Ok u → One t u c
 one_by t u c (Ok e) written is =
@@ -239,19 +239,19 @@ one_by t u c (Ok e) written is =
     record { event = e; written = written; free = o.0; after = o.1 }
 one_by t u c (Err why) written is = absurd cc
 
-one : (t u : Taken) (c : CqlpEvent) → after_one t c ≡ Ok u → One t u c
+pub one : (t u : Taken) (c : CqlpEvent) → after_one t c ≡ Ok u → One t u c
 one t u c is = one_by t u c (event_from_c c t.1) refl is
 
-record First (n : ℕ) (t k : Taken) (c : CqlpEvent) (cs : List CqlpEvent) : Type 0 where
-  mid : Taken
-  taken : after_one t c ≡ Ok mid
-  others : after_all (suc n) mid cs ≡ Ok k
+pub record First (n : ℕ) (t k : Taken) (c : CqlpEvent) (cs : List CqlpEvent) : Type 0 where
+  pub mid : Taken
+  pub taken : after_one t c ≡ Ok mid
+  pub others : after_all (suc n) mid cs ≡ Ok k
 
 first_by : (n : ℕ) (t k : Taken) (c : CqlpEvent) (cs : List CqlpEvent) (r : Result Taken Unencoded) → after_one t c ≡ r → on_from n r (λ u. after_all (suc n) u cs) ≡ Ok k → First n t k c cs
 first_by n t k c cs (Ok m) is e = record { mid = m; taken = is; others = e }
 first_by n t k c cs (Err why) is e = absurd cc
 
-first_of_all : (n : ℕ) (t k : Taken) (c : CqlpEvent) (cs : List CqlpEvent) → after_all n t (c ∷ cs) ≡ Ok k → First n t k c cs
+pub first_of_all : (n : ℕ) (t k : Taken) (c : CqlpEvent) (cs : List CqlpEvent) → after_all n t (c ∷ cs) ≡ Ok k → First n t k c cs
 first_of_all n t k c cs e = first_by n t k c cs (after_one t c) refl e
 
 -- after the end nothing is taken
@@ -299,7 +299,7 @@ rows_by (Ok (Holds field.Rows (Count m))) [] n e = let same : m ≡ n = cc in ap
 rows_by (Ok (Holds field.Rows (Count m))) (b ∷ rest) n e = absurd cc
 rows_by (Ok x) rest n e = absurd cc
 
-is_open : (s : ComposerState) (e : Event) → refusal_of s e ≡ None → s.ended ≡ false
+pub is_open : (s : ComposerState) (e : Event) → refusal_of s e ≡ None → s.ended ≡ false
 is_open s e free = by s.ended refl
   where
     by : (b : Bool) → s.ended ≡ b → s.ended ≡ false
@@ -311,11 +311,11 @@ due_by b true u m n x is e = refl
 due_by true false u m n x is e = let d : Some build_error.Misplaced ≡ None = sym is ∙ e in absurd cc
 due_by false false u m n x is e = let d : Some build_error.Misplaced ≡ None = sym is ∙ e in absurd cc
 
-is_due_next : (s : ComposerState) (e : Event) → refusal_of s e ≡ None → is_due s.frame.events e ≡ true
+pub is_due_next : (s : ComposerState) (e : Event) → refusal_of s e ≡ None → is_due s.frame.events e ≡ true
 is_due_next s e free = due_by s.ended (is_due s.frame.events e) (is_unbuilt e) (Some build_error.Misplaced) (Some build_error.Unbuilt) (bound_of s.frame e) refl free
 
 -- the events that end in a frame begin with a header
-has_header : (es : List Event) (g : OwnedFrame) → is_due es (rows_event 0) ≡ true → Ends (es ++ rows_event 0 ∷ []) (Ok g) → (h : Header) × (fields : List Event) × (es ≡ Frame h ∷ fields)
+pub has_header : (es : List Event) (g : OwnedFrame) → is_due es (rows_event 0) ≡ true → Ends (es ++ rows_event 0 ∷ []) (Ok g) → (h : Header) × (fields : List Event) × (es ≡ Frame h ∷ fields)
 has_header [] g due x = absurd cc
 has_header (Frame h ∷ es) g due x = (h, es, refl)
 has_header (Holds k v ∷ es) g due x = absurd x
@@ -355,7 +355,7 @@ begun_by cs contents before after size code was written p (inl x) =
     }
 begun_by cs contents before after size code was written p (inr x) = let d = x.4 in absurd cc
 
-read_as : (h : Header) (fields : List Event) (bytes : List ℕ) → IsFrameWith h fields bytes → IsReadAs h fields bytes
+pub read_as : (h : Header) (fields : List Event) (bytes : List ℕ) → IsFrameWith h fields bytes → IsReadAs h fields bytes
 read_as h fields bytes w =
     let f = w.frame in
     let i = is_frame_of (of_length h w.size) fields 0 f 0 w.whole w.are in

@@ -10,12 +10,12 @@ use Rattle.cqlp_decode.specs.Reading.{Waits, Says, start}
 use Rattle.cqlp_build.specs.Building.{HaveNoParts, is_inner}
 use Rattle.cqlp_build.specs.Closing.{closed}
 use Rattle.cqlp_build.specs.Laws.{without_offsets}
-use Rattle.cqlp_compose.specs.Composing.{ComposerState, IsWrittenOf, refusal_of, with_next}
+use Rattle.cqlp_compose.specs.Composing.{ComposerState, refusal_of, with_next}
 use Rattle.cqlp_c.specs.declared.encode.CqlpEncoded.{CqlpEncoded}
 use Rattle.cqlp_c.specs.declared.encode.Stopped.{Stopped}
 use Rattle.cqlp_c.specs.declared.event.CqlpEvent.{CqlpEvent}
 use Rattle.cqlp_c.specs.declared.numbers.TheConstants as numbers
-use Rattle.cqlp_c.specs.Encoding.{Encodes, IsEncoded, Taken, after_all, on_from, unless}
+use Rattle.cqlp_c.specs.Encoding.{Encodes, IsEncoded, IsWritten, Taken, after_all, on_from, unless}
 use Rattle.cqlp_c.specs.Events.{Writes, content_of}
 use Rattle.cqlp_c.specs.FromCLaws.{EventIsInRange, is_part, kept}
 
@@ -68,7 +68,7 @@ pub record IsReadAs (h : Header) (fields : List Event) (bytes : List ℕ) : Type
 
 -- What is written of a header and fields is read as these.
 abbrev pub WrittenReadsBack : Type 0
-WrittenReadsBack = (h : Header) (fields : List Event) (bytes : List ℕ) → IsWrittenOf (Frame h ∷ fields) bytes → IsReadAs h fields bytes
+WrittenReadsBack = (h : Header) (fields : List Event) (bytes : List ℕ) → IsWritten (Frame h ∷ fields) bytes → IsReadAs h fields bytes
 
 -- Of the events of a frame, as C gets them, with their contents one after the other, what is written is read as the same header and fields.
 abbrev pub HandedBackIsRead : Type 0
@@ -82,4 +82,4 @@ HandedBackIsRead =
 -- What is written has events: a header, and then fields.
 abbrev pub WrittenHasHeader : Type 0
 WrittenHasHeader =
-    (es : List Event) (bytes : List ℕ) → IsWrittenOf es bytes → (h : Header) × (fields : List Event) × (es ≡ Frame h ∷ fields)
+    (es : List Event) (bytes : List ℕ) → IsWritten es bytes → (h : Header) × (fields : List Event) × (es ≡ Frame h ∷ fields)

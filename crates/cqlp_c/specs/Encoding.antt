@@ -7,6 +7,7 @@ use Rattle.cqlp_grammar.specs.Events.{Event}
 use Rattle.cqlp_build.specs.declared.builder.BuildLimits.{BuildLimits}
 use Rattle.cqlp_build.specs.declared.error.BuildError.{BuildError}
 use Rattle.cqlp_build.specs.declared.error.BuildError.TheVariants as error
+use Rattle.cqlp_compose.specs.CellPages.{IsCellPage}
 use Rattle.cqlp_compose.specs.Composing.{ComposerState, IsOfNone, IsWrittenOf, refusal_of, start, with_next}
 use Rattle.cqlp_c.specs.declared.encode.CqlpEncoded.{CqlpEncoded}
 use Rattle.cqlp_c.specs.declared.encode.Stopped.{Stopped}
@@ -78,10 +79,14 @@ longest = record { fields = LONGEST_BODY; depth = DEPTH.greatest; bytes = LONGES
 abbrev pub at_first : (contents : List ℕ) → Taken
 at_first contents = (start longest, contents)
 
+-- They are the bytes of the frame that has these events; of a page whose cells are each one event they may be put with no frame held.
+abbrev pub IsWritten : List Event → (bytes : List ℕ) → Type 0
+IsWritten es bytes = IsWrittenOf es bytes ⊎ IsCellPage es bytes
+
 -- They are the bytes of the frame that has these events with these contents, of which nothing is left.
 abbrev pub IsEncoded : List CqlpEvent → (contents bytes : List ℕ) → Type 0
 IsEncoded cs contents bytes =
-    (s : ComposerState) × (after_all 0 (at_first contents) cs ≡ Ok (s, [])) × IsWrittenOf s.frame.events bytes
+    (s : ComposerState) × (after_all 0 (at_first contents) cs ≡ Ok (s, [])) × IsWritten s.frame.events bytes
 
 -- Why no frame has the events that were taken, or with no contents left.
 abbrev pub HasNone : Taken → Unencoded → Type 0

@@ -127,3 +127,7 @@ IsNull c = (c.tag ≡ numbers.TAG_NULL) × (c.level ≡ 0)
 -- It is no such leaf, or its content is that of no scalar of this kind.
 abbrev pub IsNoLeaf : CqlpEvent → Kind → (contents : List ℕ) → Type 0
 IsNoLeaf c k contents = (v : ScalarValue) → IsLeaf c k → event_from_c c contents ≡ found_leaf c v → ⊥
+
+-- What C passes is an empty value with no value around it.
+abbrev pub IsEmpty : CqlpEvent → Type 0
+IsEmpty c = (c.tag ≡ numbers.TAG_EMPTY) × (c.level ≡ 0)

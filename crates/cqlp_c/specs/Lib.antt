@@ -27,3 +27,4 @@ pub mod FromC
 pub mod CellFromC
 pub mod FromCLaws
 pub mod Versions
+pub mod WholePages

@@ -12,6 +12,7 @@ use crate::event::CqlpEvent;
 use crate::from_c::{BadEvent, event_from_c};
 use crate::numbers::*;
 use crate::versions::put;
+use crate::whole_page::encode_page;
 use cqlp_build::{BuildError, BuildLimits};
 use cqlp_compose::Composer;
 use cqlp_note::{Header, Limits};
@@ -179,7 +180,24 @@ pub extern "C" fn cqlp_encode(
 ) -> u32
     ensures { Encodes events.now contents.now result bytes.old bytes.new encoded.new }
 {
-    match frame_bytes(alloc, events, or_none(contents)) {
+    let contents = or_none(contents);
+    match encode_page(alloc, events, contents, bytes, encoded) {
+        Some(code) => code,
+        None => encode_any(alloc, events, contents, bytes, encoded),
+    }
+}
+
+/// The same of any frame, of which all is held until its bytes are put.
+fn encode_any(
+    alloc: Global,
+    events: &[CqlpEvent],
+    contents: &[u8],
+    bytes: &mut [u8],
+    encoded: &mut CqlpEncoded,
+) -> u32
+    ensures { Encodes events.now contents.now result bytes.old bytes.new encoded.new }
+{
+    match frame_bytes(alloc, events, contents) {
         Ok(frame) => {
             *encoded = CqlpEncoded {
                 length: frame.len(),

@@ -86,6 +86,14 @@ pub fn is_null(c_event: &CqlpEvent) -> bool
     c_event.tag == TAG_NULL && c_event.level == 0
 }
 
+/// Whether C passes an empty value with no value around it.
+#[inline(always)]
+pub fn is_empty(c_event: &CqlpEvent) -> bool
+    ensures { IsTrue result ↔ model.IsEmpty c_event.now }
+{
+    c_event.tag == TAG_EMPTY && c_event.level == 0
+}
+
 /// How many bytes its content has; none where it has no content.
 #[inline(always)]
 fn content_len(c_event: &CqlpEvent) -> usize

@@ -23,6 +23,7 @@ mod slots;
 mod talked;
 mod types;
 mod versions;
+mod whole_page;
 
 pub use check::cqlp_check;
 pub use client::{

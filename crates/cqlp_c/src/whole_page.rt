@@ -1,0 +1,353 @@
+//! Pages whose cells are each one event, written of their events at once.
+
+ghost use Rattle.std.specs.Prelude.{◌≡◌, ◌++◌, ◌≤◌, IfSome, drop, length};
+ghost use Rattle.cqlp_compose.specs.Composing.{composed};
+ghost use Rattle.cqlp_c.specs.FromC.{content_len};
+ghost use Rattle.cqlp_c.specs.WholePages as model;
+ghost use Rattle.cqlp_c.specs.WholePages.{AreNextCells, AreWritable, IsCellOfKind, IsNextCell, IsWritable};
+ghost use Rattle.cqlp_c.specs.WholePages.{EncodesPage, OpensPage, OpensWhole, PutsPage, ReadsRows};
+
+use crate::encode::{CqlpEncoded, longest, take_all};
+use crate::event::CqlpEvent;
+use crate::from_c::{event_from_c, is_empty, is_null, leaf_from_c};
+use crate::numbers::*;
+use crate::versions::put;
+use cqlp_compose::{BarePage, Composer, put_event, scalar_size};
+use cqlp_grammar::Event;
+use cqlp_kind::Kind;
+use cqlp_note::{Field, Header};
+use std::alloc::Global;
+
+/// A page that has no cells yet, and what is left for them.
+#[derive(Drop)]
+struct Opened<'a> {
+    page: BarePage,
+    /// The contents after those of the head.
+    contents: &'a [u8],
+    /// How many bytes of contents a frame may still have.
+    room: usize,
+}
+
+/// A page whose cells are known to be those of their events.
+#[derive(Drop)]
+struct WholePage<'a> {
+    /// All bytes before the first cell.
+    head: Vec<u8>,
+    /// The contents of the cells.
+    contents: &'a [u8],
+    /// How many bytes the cells have.
+    size: u64,
+}
+
+/// How many events come before the first that is a leaf, a null or an empty value.
+fn head_len(events: &[CqlpEvent]) -> usize
+    ensures { result ≤ length events.now }
+{
+    for (at, c_event) in events.iter().enumerate() {
+        if matches!(c_event.tag, TAG_LEAF | TAG_NULL | TAG_EMPTY) {
+            return at;
+        }
+    }
+    events.len()
+}
+
+/// The events without an end.
+fn without_end(events: &[CqlpEvent]) -> &[CqlpEvent]
+    ensures { model.IsWithoutEnd events.now result.now }
+{
+    let Some((last, front)) = events.split_last() else {
+        return events;
+    };
+    if last.tag == TAG_END { front } else { events }
+}
+
+/// Takes all events of a head but the last into a composer, and answers how many rows the last one counts, and the contents after its own.
+fn read_rows<'a>(
+    composer: &mut Composer,
+    events: &[CqlpEvent],
+    contents: &'a [u8],
+) -> Option<(u32, &'a [u8])>
+    ensures { IfSome result (λ found. ReadsRows (composed composer.old) events.now contents.now found.0 found.1.now (composed composer.new)) }
+{
+    let Some((last, front)) = events.split_last() else {
+        return None;
+    };
+    if last.tag != TAG_COUNT {
+        return None;
+    }
+    let Ok(rest) = take_all(composer, front, contents) else {
+        return None;
+    };
+    let Ok((event, behind)) = event_from_c(last, rest) else {
+        return None;
+    };
+    match event {
+        Event::Count {
+            field: Field::Rows,
+            count,
+        } => Some((count, behind)),
+        _ => None,
+    }
+}
+
+/// The page with these events, which are all before its cells.
+fn open_page<'a>(alloc: Global, events: &[CqlpEvent], contents: &'a [u8]) -> Option<Opened<'a>>
+    ensures { IfSome result (λ opened. OpensPage events.now contents.now opened) }
+{
+    let mut composer = Composer::new(alloc, longest());
+    let Some((rows, rest)) = read_rows(&mut composer, events, contents) else {
+        return None;
+    };
+    let room = composer.room();
+    match BarePage::new(composer, rows) {
+        Ok(page) => Some(Opened {
+            page,
+            contents: rest,
+            room,
+        }),
+        Err(_) => None,
+    }
+}
+
+/// How many bytes the next cell has, before which `cells` others come, where this event is all of it; and the contents after its own.
+#[inline(always)]
+fn measure_cell<'a>(
+    page: &BarePage,
+    cells: u64,
+    c_event: &CqlpEvent,
+    contents: &'a [u8],
+) -> Option<(u64, &'a [u8])>
+    ensures { IfSome result (λ found. IsNextCell page.now.frame cells c_event.now contents.now found.0 found.1.now) }
+{
+    let Some(kind) = page.kind_at(cells, c_event.row, c_event.column) else {
+        return None;
+    };
+    if c_event.tag == TAG_LEAF {
+        return measure_by_kind(kind, c_event, contents);
+    }
+    if is_null(c_event) {
+        return Some((4, contents));
+    }
+    if is_empty(c_event) {
+        Some((4, contents))
+    } else {
+        None
+    }
+}
+
+/// The same of a leaf. The compiler makes code of its own for each arm.
+#[inline(always)]
+fn measure_by_kind<'a>(
+    kind: Kind,
+    c_event: &CqlpEvent,
+    contents: &'a [u8],
+) -> Option<(u64, &'a [u8])>
+    ensures { IfSome result (λ found. IsCellOfKind kind c_event.now contents.now found.0 found.1.now) }
+{
+    match kind {
+        Kind::Int => measure_as(Kind::Int, c_event, contents),
+        Kind::Bigint => measure_as(Kind::Bigint, c_event, contents),
+        Kind::Varchar => measure_as(Kind::Varchar, c_event, contents),
+        Kind::Boolean => measure_as(Kind::Boolean, c_event, contents),
+        Kind::Blob => measure_as(Kind::Blob, c_event, contents),
+        Kind::Double => measure_as(Kind::Double, c_event, contents),
+        Kind::Timestamp => measure_as(Kind::Timestamp, c_event, contents),
+        Kind::Uuid => measure_as(Kind::Uuid, c_event, contents),
+        _ => measure_as(kind, c_event, contents),
+    }
+}
+
+/// The same, as one function for all kinds.
+#[inline(always)]
+fn measure_as<'a>(kind: Kind, c_event: &CqlpEvent, contents: &'a [u8]) -> Option<(u64, &'a [u8])>
+    ensures { IfSome result (λ found. IsCellOfKind kind c_event.now contents.now found.0 found.1.now) }
+{
+    match leaf_from_c(c_event, kind, contents) {
+        Some((scalar, rest)) => match scalar_size(&scalar, kind) {
+            Some(size) => Some((size, rest)),
+            None => None,
+        },
+        None => None,
+    }
+}
+
+/// How many bytes the cells of a page have, where each event is all of the next cell, and all cells come; and no contents are left after theirs.
+fn measure_cells(page: &BarePage, events: &[CqlpEvent], contents: &[u8]) -> Option<u64>
+    ensures { IfSome result (λ size. AreNextCells page.now.frame 0 contents.now events.now size) }
+{
+    let mut rest = contents;
+    let mut size = 0;
+    for (cells, c_event) in events.iter().enumerate() {
+        if size > u64::from(Header::LONGEST_BODY) {
+            return None;
+        }
+        match measure_cell(page, cells as u64, c_event, rest) {
+            Some((len, behind)) => {
+                rest = behind;
+                size += len;
+            }
+            None => return None,
+        }
+    }
+    if rest.is_empty() && events.len() as u64 == page.cells_wanted() {
+        Some(size)
+    } else {
+        None
+    }
+}
+
+/// The page with this head and these cells, of which nothing is written yet.
+fn open_whole<'a>(
+    alloc: Global,
+    head: &[CqlpEvent],
+    cells: &[CqlpEvent],
+    contents: &'a [u8],
+) -> Option<WholePage<'a>>
+    ensures { IfSome result (λ whole. OpensWhole head.now cells.now contents.now whole) }
+{
+    let Some(opened) = open_page(alloc, head, contents) else {
+        return None;
+    };
+    let Opened {
+        page,
+        contents: rest,
+        room,
+    } = opened;
+    let Some(size) = measure_cells(&page, cells, rest) else {
+        return None;
+    };
+    if size > room as u64 {
+        return None;
+    }
+    match page.begin(alloc, size) {
+        Ok(begun) => Some(WholePage {
+            head: begun.head,
+            contents: rest,
+            size,
+        }),
+        Err(_) => None,
+    }
+}
+
+/// Puts the cell that has this one event at the front of a room, and answers how many bytes it has, and the contents after its own.
+#[inline(always)]
+fn write_cell<'a>(c_event: &CqlpEvent, contents: &'a [u8], room: &mut [u8]) -> (usize, &'a [u8])
+    requires { IsWritable c_event.now contents.now (length room.old) }
+    ensures len { result.0 ≡ length (model.cell_bytes c_event.now contents.now) }
+    ensures put { room.new ≡ model.cell_bytes c_event.now contents.now ++ drop result.0 room.old }
+    ensures rest { result.1.now ≡ drop (content_len c_event.now) contents.now }
+{
+    if c_event.tag == TAG_LEAF {
+        match c_event.kind {
+            KIND_INT => write_leaf(Kind::Int, c_event, contents, room),
+            KIND_BIGINT => write_leaf(Kind::Bigint, c_event, contents, room),
+            KIND_VARCHAR => write_leaf(Kind::Varchar, c_event, contents, room),
+            KIND_BOOLEAN => write_leaf(Kind::Boolean, c_event, contents, room),
+            KIND_BLOB => write_leaf(Kind::Blob, c_event, contents, room),
+            KIND_DOUBLE => write_leaf(Kind::Double, c_event, contents, room),
+            KIND_TIMESTAMP => write_leaf(Kind::Timestamp, c_event, contents, room),
+            KIND_UUID => write_leaf(Kind::Uuid, c_event, contents, room),
+            _ => write_any(c_event, contents, room),
+        }
+    } else {
+        write_any(c_event, contents, room)
+    }
+}
+
+/// The same, where it is likely a leaf of this kind.
+#[inline(always)]
+fn write_leaf<'a>(
+    kind: Kind,
+    c_event: &CqlpEvent,
+    contents: &'a [u8],
+    room: &mut [u8],
+) -> (usize, &'a [u8])
+    requires { IsWritable c_event.now contents.now (length room.old) }
+    ensures len { result.0 ≡ length (model.cell_bytes c_event.now contents.now) }
+    ensures put { room.new ≡ model.cell_bytes c_event.now contents.now ++ drop result.0 room.old }
+    ensures rest { result.1.now ≡ drop (content_len c_event.now) contents.now }
+{
+    match leaf_from_c(c_event, kind, contents) {
+        Some((scalar, rest)) => {
+            let event = Event::Leaf {
+                row: c_event.row,
+                column: c_event.column,
+                level: 0,
+                scalar,
+            };
+            (put_event(&event, room), rest)
+        }
+        None => write_any(c_event, contents, room),
+    }
+}
+
+/// The same of any event.
+fn write_any<'a>(c_event: &CqlpEvent, contents: &'a [u8], room: &mut [u8]) -> (usize, &'a [u8])
+    requires { IsWritable c_event.now contents.now (length room.old) }
+    ensures len { result.0 ≡ length (model.cell_bytes c_event.now contents.now) }
+    ensures put { room.new ≡ model.cell_bytes c_event.now contents.now ++ drop result.0 room.old }
+    ensures rest { result.1.now ≡ drop (content_len c_event.now) contents.now }
+{
+    let Ok((event, rest)) = event_from_c(c_event, contents) else {
+        unreachable!()
+    };
+    (put_event(&event, room), rest)
+}
+
+/// Puts the cells that have these events at the front of a room.
+fn write_cells(events: &[CqlpEvent], contents: &[u8], room: &mut [u8])
+    requires { AreWritable events.now contents.now (length room.old) }
+    ensures { room.new ≡ model.cells_bytes contents.now events.now ++ drop (length (model.cells_bytes contents.now events.now)) room.old }
+{
+    let mut rest = contents;
+    let mut at = 0;
+    for c_event in events {
+        let (len, behind) = write_cell(c_event, rest, &mut room[at..]);
+        rest = behind;
+        at += len;
+    }
+}
+
+/// Puts a page whose cells have these events and `size` bytes, if there is room for it.
+fn put_page(bytes: &mut [u8], page: &WholePage<'_>, events: &[CqlpEvent]) -> u32
+    requires all { AreWritable events.now page.now.contents.now (page.now.size) }
+    requires size { length (model.cells_bytes page.now.contents.now events.now) ≡ page.now.size }
+    ensures { PutsPage page.now events.now result bytes.old bytes.new }
+{
+    let len = page.head.len();
+    if bytes.len() < len || ((bytes.len() - len) as u64) < page.size {
+        return NO_ROOM;
+    }
+    let at = put(bytes, 0, &page.head);
+    write_cells(events, page.contents, &mut bytes[at..]);
+    DONE
+}
+
+/// Writes the frame that has these events, where it is a page whose cells are each one event, and says how many bytes it has. It is None, and nothing
+/// is put, of other frames, and wherever an event is not taken or memory is refused.
+pub(crate) fn encode_page(
+    alloc: Global,
+    events: &[CqlpEvent],
+    contents: &[u8],
+    bytes: &mut [u8],
+    encoded: &mut CqlpEncoded,
+) -> Option<u32>
+    ensures { EncodesPage events.now contents.now result bytes.old bytes.new encoded.new }
+{
+    if events.len() > Header::LONGEST_BODY as usize {
+        return None;
+    }
+    let (head, others) = events.split_at(head_len(events));
+    let cells = without_end(others);
+    let Some(page) = open_whole(alloc, head, cells, contents) else {
+        return None;
+    };
+    let Some(length) = page.head.len().checked_add(page.size as usize) else {
+        return None;
+    };
+    *encoded = CqlpEncoded {
+        length,
+        event: events.len(),
+    };
+    Some(put_page(bytes, &page, cells))
+}
