@@ -789,8 +789,8 @@ static inline uint32_t cqlp_write_header(const cqlp_header *fields, uint8_t byte
  * the body in CQLP_TAG_FRAME, which is counted, and the number of an end: bytes after the last field are left out. Of an address `octets` says
  * whether it has 4 or 16 bytes. The cells of a page have the types of its columns, and are raw where the page describes none.
  * Where there is no event, no content or no room, its pointer may be null. It asks for memory for a copy of the contents, for each event, for the
- * values of a page, and for the bytes of the frame, and gives all of it back. Where each cell of a page is one event, a leaf, a null or an empty value of
- * a column without inner types, it asks for none for the cells: as much as what comes before them has is all.
+ * values of a page, and for the bytes of the frame, and gives all of it back. Of a page that it writes, whose cells are each one event, a leaf, a null or
+ * an empty value of a column without inner types, it asks for memory for what comes before the cells alone.
  * Answers CQLP_DONE, and the bytes after the frame are as they were; what was written is read as these events by a decoder whose limits allow it.
  * Else all bytes are as they were:
  * - CQLP_NO_ROOM: `length` says how many bytes the frame has. So a call with a `room` of 0 measures it.
