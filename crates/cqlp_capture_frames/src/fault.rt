@@ -4,7 +4,7 @@ use cqlp_grammar::SinkFault;
 use cqlp_note::NoMemory;
 
 /// What ends the text of what happens early.
-#[derive(Clone, Copy, Debug, PartialEq, Eq)]
+#[derive(Clone, Copy)]
 pub enum ReportFault {
     /// The output failed.
     Write,

@@ -10,7 +10,7 @@ use cqlp_note::Header;
 use cqlp_text::{Pen, TextWriter};
 
 /// A place in the responses of a connection.
-#[derive(Clone, Copy, Debug, PartialEq, Eq)]
+#[derive(Clone, Copy)]
 pub(crate) struct Spot {
     /// The number of the connection.
     pub(crate) number: u64,

@@ -12,7 +12,7 @@ use cqlp_note::{IoFault, Target};
 use std::alloc::Allocator;
 
 /// When the lines of a capture are written.
-#[derive(Clone, Copy, Debug, PartialEq, Eq)]
+#[derive(Clone, Copy)]
 pub enum Buffering {
     /// Each at once.
     Line,

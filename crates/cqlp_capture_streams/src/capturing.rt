@@ -25,7 +25,7 @@ const TURNS: u64 = 4_294_967_296;
 const ROOM: usize = 65_536;
 
 /// What a capture was that was read to its end, or to where it is refused.
-#[derive(Clone, Copy, Debug, PartialEq, Eq)]
+#[derive(Clone, Copy)]
 pub struct CaptureRead {
     pub end: CaptureEnd,
     pub packets: PacketCounts,

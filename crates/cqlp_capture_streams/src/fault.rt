@@ -3,7 +3,7 @@
 use crate::files::FileFault;
 
 /// What ends the reading of a capture early.
-#[derive(Clone, Copy, Debug, PartialEq, Eq)]
+#[derive(Clone, Copy)]
 pub enum StreamsFault {
     /// The input failed.
     Read,

@@ -30,7 +30,7 @@ pub trait LastWords {
 }
 
 /// A word, without a note.
-#[derive(Clone, Copy, Debug, PartialEq, Eq)]
+#[derive(Clone, Copy)]
 pub struct LastWord(pub &'static str);
 
 impl LastWords for LastWord {

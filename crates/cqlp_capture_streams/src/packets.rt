@@ -7,7 +7,7 @@ use cqlp_capture::SkipReason;
 use cqlp_tcp_segment::NoSegment;
 
 /// Packets without a segment of TCP, by the reason. A number stays at 2^64 - 1 once it is there.
-#[derive(Clone, Copy, Debug, PartialEq, Eq)]
+#[derive(Clone, Copy)]
 pub struct WithoutCounts {
     pub unknown_link: u64,
     pub cut_in_link: u64,
@@ -23,7 +23,7 @@ pub struct WithoutCounts {
 }
 
 /// What packets were. A number stays at 2^64 - 1 once it is there.
-#[derive(Clone, Copy, Debug, PartialEq, Eq)]
+#[derive(Clone, Copy)]
 pub struct PacketCounts {
     pub packets: u64,
     /// Packets with a segment of TCP.

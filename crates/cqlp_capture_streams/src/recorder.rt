@@ -21,7 +21,7 @@ use std::alloc::{AllocError, Allocator};
 use std::marker::Model;
 
 /// What the connections delivered that have left. A number stays at 2^64 - 1 once it is there.
-#[derive(Clone, Copy, Debug, PartialEq, Eq)]
+#[derive(Clone, Copy)]
 pub(crate) struct Sums {
     pub gaps: u64,
     /// Bytes that were handed on.

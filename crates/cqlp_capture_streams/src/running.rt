@@ -13,7 +13,7 @@ use cqlp_note::{IoFault, Source};
 use std::alloc::Allocator;
 
 /// How the events of a piece end.
-#[derive(Clone, Copy, Debug, PartialEq, Eq)]
+#[derive(Clone, Copy)]
 enum Drained {
     More,
     Refused,

@@ -10,7 +10,7 @@ use cqlp_grammar::SinkFault;
 use cqlp_text::{Pen, TextWriter};
 
 /// Blocks, interfaces and packets that cannot be read, by the reason. A number stays at 2^64 - 1 once it is there.
-#[derive(Clone, Copy, Debug, PartialEq, Eq)]
+#[derive(Clone, Copy)]
 pub struct SkippedCounts {
     pub short_block: u64,
     pub bad_option_length: u64,

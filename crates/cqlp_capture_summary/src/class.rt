@@ -5,7 +5,7 @@ ghost use Rattle.std.specs.Int.{is_in_range};
 ghost use Rattle.cqlp_capture_summary.specs.Fingerprints.{class_of, hex_with, is_digit, is_hex, is_letter, is_number, is_opening, is_space, is_uuid, is_word};
 
 /// What a byte may begin.
-#[derive(Clone, Copy, Debug, PartialEq, Eq)]
+#[derive(Clone, Copy)]
 pub(crate) enum Class {
     Space,
     Digit,

@@ -1,7 +1,7 @@
 //! Where a statement is being read.
 
 /// Where a statement is being read.
-#[derive(Clone, Copy, Debug, PartialEq, Eq)]
+#[derive(Clone, Copy)]
 pub(crate) enum Mode {
     /// Between words, numbers, texts and comments.
     Between,

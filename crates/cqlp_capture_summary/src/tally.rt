@@ -45,7 +45,7 @@ impl Model for Tally {
 }
 
 /// The numbers of a statement as a line has them.
-#[derive(Clone, Copy, Debug, PartialEq, Eq)]
+#[derive(Clone, Copy)]
 pub struct Figures {
     pub count: u64,
     /// How many were answered by an ERROR.
@@ -64,7 +64,7 @@ pub struct Figures {
 }
 
 /// Times of a statement, in nanoseconds.
-#[derive(Clone, Copy, Debug, PartialEq, Eq)]
+#[derive(Clone, Copy)]
 pub struct Times {
     /// The time, or at most 1/32 more, that half of them are not above.
     pub median: u64,

@@ -23,7 +23,7 @@ use cqlp_type::TypeTable;
 use std::alloc::Allocator;
 
 /// The next item of the innermost value that is open, of which nothing has come.
-#[derive(Clone, Copy, Debug, PartialEq, Eq)]
+#[derive(Clone, Copy)]
 pub struct DueItem {
     /// Where it begins.
     pub at: u64,
@@ -34,7 +34,7 @@ pub struct DueItem {
 }
 
 /// A part of a cell that has no content, which began at this offset, and how many bytes it takes.
-#[derive(Clone, Copy, Debug, PartialEq, Eq)]
+#[derive(Clone, Copy)]
 pub struct BareItem {
     pub at: u64,
     pub used: usize,
@@ -42,7 +42,7 @@ pub struct BareItem {
 }
 
 /// A part of a cell that has no content.
-#[derive(Clone, Copy, Debug, PartialEq, Eq)]
+#[derive(Clone, Copy)]
 pub enum BarePart {
     /// A value of a negative length.
     Null { level: u32 },

@@ -11,7 +11,7 @@ use std::alloc::{Allocator, Global};
 use thiserror::Error;
 
 /// What a table that the caller gave is for.
-#[derive(Clone, Copy, Debug, PartialEq, Eq)]
+#[derive(Clone, Copy)]
 pub enum GivenUse {
     /// It waits for a page that it fits.
     Waiting,

@@ -31,7 +31,7 @@ use std::alloc::Allocator;
 const LONGEST_FIXED: u32 = 16;
 
 /// What became of the cell that is due.
-#[derive(Clone, Copy, Debug, PartialEq, Eq)]
+#[derive(Clone, Copy)]
 pub enum Handed {
     /// Nothing: it is left.
     Left,
@@ -42,7 +42,7 @@ pub enum Handed {
 }
 
 /// A value without a content.
-#[derive(Clone, Copy, Debug, PartialEq, Eq)]
+#[derive(Clone, Copy)]
 pub enum Bare {
     Null,
     Empty,

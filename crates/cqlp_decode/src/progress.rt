@@ -22,7 +22,7 @@ use cqlp_type::{TypeAdvance, TypeOutline, TypeReader, TypeTable};
 use std::alloc::Allocator;
 
 /// What is read now.
-#[derive(Clone, Copy, Debug, PartialEq, Eq)]
+#[derive(Clone, Copy)]
 pub enum StreamStage {
     Header,
     Field(Want),

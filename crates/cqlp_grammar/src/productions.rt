@@ -10,7 +10,7 @@ use crate::{error_code, result_kind};
 use cqlp_note::{Field, Notation, Opcode};
 
 /// What is to be read next.
-#[derive(Clone, Copy, Debug, PartialEq, Eq)]
+#[derive(Clone, Copy)]
 pub enum Expected {
     Field(Want),
     /// The type option of a column.
@@ -18,7 +18,7 @@ pub enum Expected {
 }
 
 /// A field that is to be read.
-#[derive(Clone, Copy, Debug, PartialEq, Eq)]
+#[derive(Clone, Copy)]
 pub struct Want {
     pub field: Field,
     pub notation: Notation,

@@ -7,7 +7,7 @@ use crate::productions::{Expected, group_fields};
 use std::marker::Model;
 
 /// Fields that are still to be read.
-#[derive(Clone, Copy, Debug, PartialEq, Eq)]
+#[derive(Clone, Copy)]
 pub enum Slot {
     One(Expected),
     /// This many of a group.

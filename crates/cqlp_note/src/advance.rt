@@ -48,7 +48,7 @@ pub enum FieldAdvance {
 }
 
 /// What a piece of input made of a field.
-#[derive(Clone, Copy, Debug, PartialEq, Eq)]
+#[derive(Clone, Copy)]
 pub enum Push<'a> {
     /// All of it was used, and the field goes on.
     More { used: usize },

@@ -21,7 +21,7 @@ pub enum BoundValue<'a> {
 }
 
 /// What a field holds; exported as `Prim`.
-#[derive(Clone, Copy, Debug, PartialEq, Eq)]
+#[derive(Clone, Copy)]
 pub enum Primitive<'a> {
     /// A \[byte\].
     Byte(u8),

@@ -11,7 +11,7 @@ use crate::partial::read_content_head;
 use crate::prim::{BoundValue, Primitive};
 
 /// A field, and how many bytes it takes.
-#[derive(Clone, Copy, Debug, PartialEq, Eq)]
+#[derive(Clone, Copy)]
 pub struct WholeField<'a> {
     pub used: usize,
     pub value: Primitive<'a>,

@@ -10,7 +10,7 @@ use crate::numbers::{array, has, int, is_negative, short};
 use cqlp_note::{Header, Opcode};
 
 /// A field before the message proper.
-#[derive(Clone, Copy, Debug, PartialEq, Eq)]
+#[derive(Clone, Copy)]
 pub(crate) enum Announced {
     TraceId,
     WarningCount,

@@ -9,7 +9,7 @@ use crate::numbers::{byte, int, short};
 use crate::query::past_value;
 
 /// A field of a BATCH.
-#[derive(Clone, Copy, Debug, PartialEq, Eq)]
+#[derive(Clone, Copy)]
 pub(crate) enum BatchField {
     Type,
     /// How many statements there are.

@@ -15,7 +15,7 @@ use crate::rows::RowsField;
 use cqlp_note::Opcode;
 
 /// The field of a body that comes next: a number, or the length of a content, which is passed over.
-#[derive(Clone, Copy, Debug, PartialEq, Eq)]
+#[derive(Clone, Copy)]
 pub(crate) enum Due {
     /// One of those before the message proper.
     Announced(Announced),
@@ -40,7 +40,7 @@ pub(crate) enum Due {
 }
 
 /// What follows a field.
-#[derive(Clone, Copy, Debug, PartialEq, Eq)]
+#[derive(Clone, Copy)]
 pub(crate) struct Next {
     /// How many bytes are passed over.
     pub(crate) passing: u32,

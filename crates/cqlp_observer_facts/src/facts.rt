@@ -25,7 +25,7 @@ pub struct Facts {
 }
 
 /// One of the facts.
-#[derive(Clone, Copy, Debug, PartialEq, Eq)]
+#[derive(Clone, Copy)]
 pub(crate) enum Fact {
     Consistency(u16),
     PageSize(i32),

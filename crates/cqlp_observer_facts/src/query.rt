@@ -9,7 +9,7 @@ use crate::facts::Fact;
 use crate::numbers::{array, byte, has, int, is_negative, short};
 
 /// A field of the parameters.
-#[derive(Clone, Copy, Debug, PartialEq, Eq)]
+#[derive(Clone, Copy)]
 pub(crate) enum QueryField {
     Consistency,
     Flags,
@@ -24,7 +24,7 @@ pub(crate) enum QueryField {
 }
 
 /// What the flags say of the values.
-#[derive(Clone, Copy, Debug, PartialEq, Eq)]
+#[derive(Clone, Copy)]
 pub(crate) struct ValueForm {
     /// Whether a name goes before each.
     pub(crate) named: bool,

@@ -11,7 +11,7 @@ use crate::numbers::{array, has, int, is_negative, short};
 use crate::types::{Types, TypesNext};
 
 /// A field of a page's metadata, or the number of its rows.
-#[derive(Clone, Copy, Debug, PartialEq, Eq)]
+#[derive(Clone, Copy)]
 pub(crate) enum RowsField {
     Flags,
     ColumnCount { flags: u32 },

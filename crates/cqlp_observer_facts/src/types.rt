@@ -4,7 +4,7 @@ ghost use Rattle.std.specs.Prelude.{◌≡◌};
 ghost use Rattle.cqlp_observer_facts.specs.Types.{columns_of, innermost, is_over, level_over, types_next, with_fields, with_first, with_types};
 
 /// What is still to be read at one level: so many types, and then so many fields, each a name and a type.
-#[derive(Clone, Copy, Debug, PartialEq, Eq)]
+#[derive(Clone, Copy)]
 pub(crate) struct Level {
     pub(crate) types: u32,
     pub(crate) fields: u32,
@@ -13,7 +13,7 @@ pub(crate) struct Level {
 }
 
 /// What is still to be read: the innermost level first, and those around it. The columns of a page are the fields of the outermost one.
-#[derive(Clone, Copy, Debug, PartialEq, Eq)]
+#[derive(Clone, Copy)]
 pub(crate) struct Types {
     pub(crate) first: Level,
     pub(crate) second: Level,
@@ -22,7 +22,7 @@ pub(crate) struct Types {
 }
 
 /// What comes next.
-#[derive(Clone, Copy, Debug, PartialEq, Eq)]
+#[derive(Clone, Copy)]
 pub(crate) enum TypesNext {
     /// A type.
     Type(Types),

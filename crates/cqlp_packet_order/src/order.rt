@@ -210,7 +210,7 @@ fn take_room<A: Allocator + Clone>(
 }
 
 /// Packets that wait: how many, with how many bytes, and the times of the first and the last.
-#[derive(Clone, Copy, Debug)]
+#[derive(Clone, Copy)]
 struct Waiting {
     count: usize,
     bytes: usize,

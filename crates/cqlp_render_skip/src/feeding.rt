@@ -13,7 +13,7 @@ use cqlp_skip::{Fed, SkippingDecoder};
 use std::alloc::Allocator;
 
 /// How handing on a piece ends.
-#[derive(Clone, Copy, Debug, PartialEq, Eq)]
+#[derive(Clone, Copy)]
 pub(crate) enum Handed {
     /// All of it was used, and more is wanted.
     More,

@@ -8,7 +8,7 @@ use std::alloc::{AllocError, Allocator, Global};
 use std::marker::Model;
 
 /// A request whose reply has not come.
-#[derive(Clone, Copy, Debug, PartialEq, Eq)]
+#[derive(Clone, Copy)]
 pub struct OpenRequest {
     /// The place of the request among all that the core began.
     pub number: u64,

@@ -8,7 +8,7 @@ use cqlp_grammar::Event;
 use cqlp_note::Header;
 
 /// A frame whose header was handed out, and whose end was not.
-#[derive(Clone, Copy, Debug, PartialEq, Eq)]
+#[derive(Clone, Copy)]
 pub struct OpenFrame {
     /// The offset of its header, from where the present stretch begins.
     pub at: u64,

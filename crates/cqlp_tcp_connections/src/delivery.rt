@@ -8,7 +8,7 @@ use crate::totals::ConnectionTotals;
 use cqlp_tcp_reassembly::StreamStep;
 
 /// What a segment is to a table.
-#[derive(Clone, Copy, Debug, PartialEq, Eq)]
+#[derive(Clone, Copy)]
 pub enum Admission {
     /// Neither of its ports is asked for. It was counted, and that is all.
     Foreign,
@@ -20,7 +20,7 @@ pub enum Admission {
 }
 
 /// What is reported of one direction of a connection.
-#[derive(Clone, Copy, Debug, PartialEq, Eq)]
+#[derive(Clone, Copy)]
 pub struct Delivery {
     /// The number of the connection.
     pub number: u64,
@@ -34,7 +34,7 @@ pub struct Delivery {
 }
 
 /// What is reported of one direction of a connection whose ends its pool has.
-#[derive(Clone, Copy, Debug, PartialEq, Eq)]
+#[derive(Clone, Copy)]
 pub(crate) struct WayStep {
     pub(crate) number: u64,
     pub(crate) way: Way,
@@ -60,7 +60,7 @@ pub(crate) fn between(ends: Ends, step: Option<WayStep>) -> Option<Delivery>
 }
 
 /// What is reported of a connection that leaves.
-#[derive(Clone, Copy, Debug, PartialEq, Eq)]
+#[derive(Clone, Copy)]
 pub enum Departure {
     /// What it still has.
     Delivery(Delivery),

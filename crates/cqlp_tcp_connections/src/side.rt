@@ -12,7 +12,7 @@ use std::alloc::{AllocError, Allocator};
 use std::marker::Model;
 
 /// What a stream reports, and after how many bytes and bytes of gaps.
-#[derive(Clone, Copy, Debug, PartialEq, Eq)]
+#[derive(Clone, Copy)]
 pub(crate) struct SideStep {
     pub(crate) at: u64,
     pub(crate) step: StreamStep,

@@ -5,7 +5,7 @@ ghost use Rattle.std.specs.Prelude.{◌≡◌};
 use cqlp_tcp_segment::Endpoint;
 
 /// Whether the begin of a direction was reported.
-#[derive(Clone, Copy, Debug, PartialEq, Eq)]
+#[derive(Clone, Copy)]
 pub enum Begin {
     /// Nothing of it was.
     Unseen,
@@ -16,7 +16,7 @@ pub enum Begin {
 }
 
 /// Whether the end of a direction was reported.
-#[derive(Clone, Copy, Debug, PartialEq, Eq)]
+#[derive(Clone, Copy, PartialEq, Eq)]
 pub enum End {
     /// It was not.
     Open,
@@ -27,7 +27,7 @@ pub enum End {
 }
 
 /// What was reported of one direction of a connection. A number stays at 2^64 - 1 once it is there.
-#[derive(Clone, Copy, Debug, PartialEq, Eq)]
+#[derive(Clone, Copy)]
 pub struct DirectionTotals {
     /// Segments, with those of which nothing was reported.
     pub segments: u64,
@@ -46,7 +46,7 @@ pub struct DirectionTotals {
 }
 
 /// What was reported of a connection.
-#[derive(Clone, Copy, Debug, PartialEq, Eq)]
+#[derive(Clone, Copy)]
 pub struct ConnectionTotals {
     /// Connections are numbered from 1 on, in the order in which their first segments came.
     pub number: u64,
@@ -57,7 +57,7 @@ pub struct ConnectionTotals {
 }
 
 /// What a table has counted. A number stays at 2^64 - 1 once it is there.
-#[derive(Clone, Copy, Debug, PartialEq, Eq)]
+#[derive(Clone, Copy)]
 pub struct ConnectionCounts {
     /// Connections of which a segment was seen.
     pub connections: u64,

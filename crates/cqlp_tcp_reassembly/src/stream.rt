@@ -17,7 +17,7 @@ use std::marker::Model;
 const LONGEST: u64 = 1 << 62;
 
 /// How far a stream is.
-#[derive(Clone, Copy, Debug, PartialEq, Eq)]
+#[derive(Clone, Copy)]
 pub(crate) enum Stage {
     Unseen,
     Open,

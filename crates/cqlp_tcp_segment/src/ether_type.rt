@@ -9,7 +9,7 @@ use crate::fields::number_16;
 use crate::reason::NoSegment;
 
 /// A version of IP.
-#[derive(Clone, Copy, Debug, PartialEq, Eq)]
+#[derive(Clone, Copy)]
 pub(crate) enum IpVersion {
     V4,
     V6,

@@ -9,7 +9,7 @@ use cqlp_kind::Scalar;
 use cqlp_note::Address;
 
 /// A word of a line.
-#[derive(Clone, Copy, Debug, PartialEq, Eq)]
+#[derive(Clone, Copy)]
 pub enum Word<'a> {
     Name(&'a str),
     /// A text that someone else wrote, in one line.

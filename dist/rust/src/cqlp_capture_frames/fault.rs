@@ -5,7 +5,7 @@ use crate::cqlp_grammar::SinkFault;
 use crate::cqlp_note::NoMemory;
 
 /// What ends the text of what happens early.
-#[derive(Clone, Copy, Debug, PartialEq, Eq)]
+#[derive(Clone, Copy)]
 pub enum ReportFault {
     /// The output failed.
     Write,

@@ -7,7 +7,7 @@ use crate::cqlp_tcp_reassembly::GapCause;
 use crate::cqlp_text::{Pen, TextWriter, reason_name};
 
 /// The direction of a connection that a line is of.
-#[derive(Clone, Copy, Debug, PartialEq, Eq)]
+#[derive(Clone, Copy)]
 pub struct LinePlace {
     /// The number of the connection.
     pub number: u64,

@@ -6,7 +6,7 @@ use crate::cqlp_note::Header;
 use crate::cqlp_text::{Pen, TextWriter};
 
 /// A place in the responses of a connection.
-#[derive(Clone, Copy, Debug, PartialEq, Eq)]
+#[derive(Clone, Copy)]
 pub(crate) struct Spot {
     /// The number of the connection.
     pub(crate) number: u64,

@@ -8,7 +8,7 @@ use crate::cqlp_note::{IoFault, Target};
 use crate::kit_std::alloc::Allocator;
 
 /// When the lines of a capture are written.
-#[derive(Clone, Copy, Debug, PartialEq, Eq)]
+#[derive(Clone, Copy)]
 pub enum Buffering {
     /// Each at once.
     Line,

@@ -4,7 +4,7 @@
 use crate::cqlp_tcp_connections::{ConnectionTotals, Delivery};
 
 /// An event of a connection of a capture.
-#[derive(Clone, Copy, Debug, PartialEq, Eq)]
+#[derive(Clone, Copy)]
 pub enum ConnectionEvent<'a> {
     /// A packet with a segment comes, which was captured at this time, in nanoseconds since 1970-01-01 00:00:00 UTC; `None` where the
     /// file does not say when. What its segment delivers comes next.

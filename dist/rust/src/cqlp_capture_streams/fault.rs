@@ -4,7 +4,7 @@
 use crate::cqlp_capture_streams::files::FileFault;
 
 /// What ends the reading of a capture early.
-#[derive(Clone, Copy, Debug, PartialEq, Eq)]
+#[derive(Clone, Copy)]
 pub enum StreamsFault {
     /// The input failed.
     Read,

@@ -4,7 +4,7 @@
 use crate::cqlp_tcp_connections::Way;
 
 /// The file of one direction of a connection.
-#[derive(Clone, Copy, Debug, PartialEq, Eq)]
+#[derive(Clone, Copy)]
 pub struct StreamFile {
     /// The number of the connection.
     pub number: u64,
@@ -12,7 +12,7 @@ pub struct StreamFile {
 }
 
 /// Why the bytes of a direction are not kept.
-#[derive(Clone, Copy, Debug, PartialEq, Eq)]
+#[derive(Clone, Copy)]
 pub enum FileFault {
     /// The file is there already, or cannot be made.
     CannotMake(StreamFile),

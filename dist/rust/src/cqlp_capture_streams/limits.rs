@@ -5,7 +5,7 @@ use crate::cqlp_packet_order::OrderLimits;
 use crate::cqlp_tcp_connections::ConnectionLimits;
 
 /// What the reading of a capture keeps at most.
-#[derive(Clone, Copy, Debug, PartialEq, Eq)]
+#[derive(Clone, Copy)]
 pub struct StreamsLimits {
     pub connections: ConnectionLimits,
     /// The window in which packets are put in order.

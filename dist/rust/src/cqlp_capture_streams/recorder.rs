@@ -16,7 +16,7 @@ use crate::cqlp_text::{Pen, TextWriter, put_text};
 use crate::kit_std::alloc::{AllocError, Allocator};
 
 /// What the connections delivered that have left. A number stays at 2^64 - 1 once it is there.
-#[derive(Clone, Copy, Debug, PartialEq, Eq)]
+#[derive(Clone, Copy)]
 pub(crate) struct Sums {
     pub gaps: u64,
     /// Bytes that were handed on.

@@ -10,7 +10,7 @@ use crate::cqlp_note::{IoFault, Source};
 use crate::kit_std::alloc::Allocator;
 
 /// How the events of a piece end.
-#[derive(Clone, Copy, Debug, PartialEq, Eq)]
+#[derive(Clone, Copy)]
 enum Drained {
     More,
     Refused,

@@ -7,7 +7,7 @@ use crate::cqlp_grammar::SinkFault;
 use crate::cqlp_text::{Pen, TextWriter};
 
 /// Blocks, interfaces and packets that cannot be read, by the reason. A number stays at 2^64 - 1 once it is there.
-#[derive(Clone, Copy, Debug, PartialEq, Eq)]
+#[derive(Clone, Copy)]
 pub struct SkippedCounts {
     pub short_block: u64,
     pub bad_option_length: u64,

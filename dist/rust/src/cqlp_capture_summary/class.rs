@@ -2,7 +2,7 @@
 //! Classes of bytes in a statement.
 
 /// What a byte may begin.
-#[derive(Clone, Copy, Debug, PartialEq, Eq)]
+#[derive(Clone, Copy)]
 pub(crate) enum Class {
     Space,
     Digit,

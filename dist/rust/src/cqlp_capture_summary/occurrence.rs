@@ -2,7 +2,7 @@
 //! One time that a statement was asked for.
 
 /// One time that a statement was asked for.
-#[derive(Clone, Copy, Debug)]
+#[derive(Clone, Copy)]
 pub struct Occurrence<'a> {
     /// What the statement is called, as its text. At most the first 256 bytes are kept.
     pub name: &'a [u8],

@@ -5,7 +5,7 @@ use crate::cqlp_capture_summary::lines::text_front;
 use crate::cqlp_capture_summary::tally::Figures;
 
 /// What is shown of a statement in a summary.
-#[derive(Clone, Copy, Debug)]
+#[derive(Clone, Copy)]
 pub struct Row<'a> {
     /// The first 256 bytes of what it is called.
     pub name: &'a [u8],

@@ -6,7 +6,7 @@ use crate::cqlp_note::Refusal;
 
 /// A part of a cell. Its level is the number of values around it, 0 for the cell itself. Section 6 of
 /// `native_protocol_v4.spec`.
-#[derive(Clone, Copy, Debug, PartialEq, Eq)]
+#[derive(Clone, Copy)]
 pub enum CellItem<'a> {
     /// A scalar.
     Leaf {
@@ -43,7 +43,7 @@ pub enum CellItem<'a> {
 }
 
 /// What a piece of input made of a cell.
-#[derive(Clone, Copy, Debug, PartialEq, Eq)]
+#[derive(Clone, Copy)]
 pub enum CellPush<'a> {
     /// All of it was used, and the cell goes on.
     More {

@@ -8,7 +8,7 @@ use crate::cqlp_type::TypeTable;
 use crate::kit_std::alloc::{Allocator, Global};
 
 /// What a table that the caller gave is for.
-#[derive(Clone, Copy, Debug, PartialEq, Eq)]
+#[derive(Clone, Copy)]
 pub enum GivenUse {
     /// It waits for a page that it fits.
     Waiting,

@@ -31,14 +31,14 @@ pub(crate) const LIST_END: usize = 2;
 pub(crate) const AMONG_ITEMS: usize = 3;
 
 /// A part of a cell that has no content, and whether the cell is over.
-#[derive(Clone, Copy, Debug, PartialEq, Eq)]
+#[derive(Clone, Copy)]
 pub struct PartTaken {
     pub item: BareItem,
     pub over: bool,
 }
 
 /// How many bytes the items take that were handed out, and whether the sink failed at the last of them.
-#[derive(Clone, Copy, Debug, PartialEq, Eq)]
+#[derive(Clone, Copy)]
 pub struct ItemsHanded {
     pub used: usize,
     pub failed: bool,

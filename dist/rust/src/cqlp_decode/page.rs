@@ -20,7 +20,7 @@ pub enum Columns {
 }
 
 /// A cell of a page, and how many rows there are after its own.
-#[derive(Clone, Copy, Debug, PartialEq, Eq)]
+#[derive(Clone, Copy)]
 pub struct CellCursor {
     pub columns: Columns,
     pub row: u32,
@@ -31,7 +31,7 @@ pub struct CellCursor {
 }
 
 /// The head of a column's type: its kind, and how many nodes of the table the type takes.
-#[derive(Clone, Copy, Debug, PartialEq, Eq)]
+#[derive(Clone, Copy)]
 pub struct ColumnHead {
     pub kind: Kind,
     pub span: u32,

@@ -22,7 +22,7 @@ use crate::kit_std::alloc::Allocator;
 const LONGEST_FIXED: u32 = 16;
 
 /// What became of the cell that is due.
-#[derive(Clone, Copy, Debug, PartialEq, Eq)]
+#[derive(Clone, Copy)]
 pub enum Handed {
     /// Nothing: it is left.
     Left,
@@ -33,7 +33,7 @@ pub enum Handed {
 }
 
 /// A value without a content.
-#[derive(Clone, Copy, Debug, PartialEq, Eq)]
+#[derive(Clone, Copy)]
 pub enum Bare {
     Null,
     Empty,

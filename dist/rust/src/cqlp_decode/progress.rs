@@ -13,7 +13,7 @@ use crate::cqlp_type::{TypeAdvance, TypeReader, TypeTable};
 use crate::kit_std::alloc::Allocator;
 
 /// What is read now.
-#[derive(Clone, Copy, Debug, PartialEq, Eq)]
+#[derive(Clone, Copy)]
 pub enum StreamStage {
     Header,
     Field(Want),

@@ -2,7 +2,7 @@
 //! The words of the productions, by which messages are read field by field.
 
 /// What a count counts: the fields of one item. Sections 3 and 4 of `native_protocol_v4.spec`.
-#[derive(Clone, Copy, Debug, PartialEq, Eq)]
+#[derive(Clone, Copy)]
 pub enum Group {
     /// The warnings before a message.
     Warnings,
@@ -27,7 +27,7 @@ pub enum Group {
 }
 
 /// What follows from the value of a field.
-#[derive(Clone, Copy, Debug, PartialEq, Eq)]
+#[derive(Clone, Copy)]
 pub enum Role {
     /// Nothing.
     Alone,

@@ -6,7 +6,7 @@ use crate::cqlp_grammar::{error_code, result_kind};
 use crate::cqlp_note::{Field, Notation, Opcode};
 
 /// What is to be read next.
-#[derive(Clone, Copy, Debug, PartialEq, Eq)]
+#[derive(Clone, Copy)]
 pub enum Expected {
     Field(Want),
     /// The type option of a column.
@@ -14,7 +14,7 @@ pub enum Expected {
 }
 
 /// A field that is to be read.
-#[derive(Clone, Copy, Debug, PartialEq, Eq)]
+#[derive(Clone, Copy)]
 pub struct Want {
     pub field: Field,
     pub notation: Notation,

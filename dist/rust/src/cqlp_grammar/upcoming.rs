@@ -5,7 +5,7 @@ use crate::cqlp_grammar::grammar::Group;
 use crate::cqlp_grammar::productions::{Expected, group_fields};
 
 /// Fields that are still to be read.
-#[derive(Clone, Copy, Debug, PartialEq, Eq)]
+#[derive(Clone, Copy)]
 pub enum Slot {
     One(Expected),
     /// This many of a group.

@@ -2,7 +2,7 @@
 //! How fields are written, and which they are.
 
 /// How a field is written. Section 3 of `native_protocol_v4.spec`; all numbers have their highest byte first.
-#[derive(Clone, Copy, Debug, PartialEq, Eq)]
+#[derive(Clone, Copy)]
 pub enum Notation {
     /// \[byte\]: one byte.
     Byte,

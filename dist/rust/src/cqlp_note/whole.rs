@@ -7,7 +7,7 @@ use crate::cqlp_note::partial::read_content_head;
 use crate::cqlp_note::prim::{BoundValue, Primitive};
 
 /// A field, and how many bytes it takes.
-#[derive(Clone, Copy, Debug, PartialEq, Eq)]
+#[derive(Clone, Copy)]
 pub struct WholeField<'a> {
     pub used: usize,
     pub value: Primitive<'a>,

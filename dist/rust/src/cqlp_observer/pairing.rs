@@ -21,7 +21,7 @@ pub struct Pairing<T, A: Allocator = Global> {
 }
 
 /// What becomes of the next message.
-#[derive(Clone, Copy, Debug, PartialEq, Eq)]
+#[derive(Clone, Copy)]
 pub(crate) enum Fate {
     /// It is an event, which is reported at once.
     IsReported,

@@ -4,7 +4,7 @@
 /// The bytes of a piece that are still to be read, step by step.
 ///
 /// A step uses some of them, or ends a frame: so a piece of n bytes takes at most 2 n + 2 steps.
-#[derive(Clone, Copy, Debug, PartialEq, Eq)]
+#[derive(Clone, Copy)]
 pub struct Unread<'a> {
     pub bytes: &'a [u8],
     /// Whether the first of them begins a segment.

@@ -7,7 +7,7 @@ use crate::cqlp_observer_facts::numbers::{array, has, int, is_negative, short};
 use crate::cqlp_note::{Header, Opcode};
 
 /// A field before the message proper.
-#[derive(Clone, Copy, Debug, PartialEq, Eq)]
+#[derive(Clone, Copy)]
 pub(crate) enum Announced {
     TraceId,
     WarningCount,

@@ -7,7 +7,7 @@ use crate::cqlp_observer_facts::numbers::{byte, int, short};
 use crate::cqlp_observer_facts::query::past_value;
 
 /// A field of a BATCH.
-#[derive(Clone, Copy, Debug, PartialEq, Eq)]
+#[derive(Clone, Copy)]
 pub(crate) enum BatchField {
     Type,
     /// How many statements there are.

@@ -8,7 +8,7 @@ use crate::cqlp_observer_facts::numbers::{array, has, int, is_negative, short};
 use crate::cqlp_observer_facts::types::{Types, TypesNext};
 
 /// A field of a page's metadata, or the number of its rows.
-#[derive(Clone, Copy, Debug, PartialEq, Eq)]
+#[derive(Clone, Copy)]
 pub(crate) enum RowsField {
     Flags,
     ColumnCount { flags: u32 },

@@ -2,7 +2,7 @@
 //! The types of a page's columns, which may lie within one another. Section 4.2.5.2 of `native_protocol_v4.spec`.
 
 /// What is still to be read at one level: so many types, and then so many fields, each a name and a type.
-#[derive(Clone, Copy, Debug, PartialEq, Eq)]
+#[derive(Clone, Copy)]
 pub(crate) struct Level {
     pub(crate) types: u32,
     pub(crate) fields: u32,
@@ -11,7 +11,7 @@ pub(crate) struct Level {
 }
 
 /// What is still to be read: the innermost level first, and those around it. The columns of a page are the fields of the outermost one.
-#[derive(Clone, Copy, Debug, PartialEq, Eq)]
+#[derive(Clone, Copy)]
 pub(crate) struct Types {
     pub(crate) first: Level,
     pub(crate) second: Level,
@@ -20,7 +20,7 @@ pub(crate) struct Types {
 }
 
 /// What comes next.
-#[derive(Clone, Copy, Debug, PartialEq, Eq)]
+#[derive(Clone, Copy)]
 pub(crate) enum TypesNext {
     /// A type.
     Type(Types),

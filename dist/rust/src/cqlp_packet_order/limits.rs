@@ -2,7 +2,7 @@
 //! How far a window reaches, and what it counts.
 
 /// How far the window of a `PacketOrder` reaches. The first packet in it leaves once one of these is passed.
-#[derive(Clone, Copy, Debug, PartialEq, Eq)]
+#[derive(Clone, Copy)]
 pub struct OrderLimits {
     /// How many packets wait at most. With 0 the window is off: each packet passes as it comes.
     pub packets: u32,
@@ -13,7 +13,7 @@ pub struct OrderLimits {
 }
 
 /// What was out of order. A number stays at 2^64 - 1 once it is there.
-#[derive(Clone, Copy, Debug, PartialEq, Eq)]
+#[derive(Clone, Copy)]
 pub struct OrderCounts {
     /// Packets that were put before others which came earlier.
     pub reordered: u64,

@@ -8,7 +8,7 @@ use crate::cqlp_skip::{Fed, SkippingDecoder};
 use crate::kit_std::alloc::Allocator;
 
 /// How handing on a piece ends.
-#[derive(Clone, Copy, Debug, PartialEq, Eq)]
+#[derive(Clone, Copy)]
 pub(crate) enum Handed {
     /// All of it was used, and more is wanted.
     More,

@@ -7,7 +7,7 @@ use crate::cqlp_session::{slots, stream_ids};
 use crate::kit_std::alloc::{AllocError, Allocator, Global};
 
 /// A request whose reply has not come.
-#[derive(Clone, Copy, Debug, PartialEq, Eq)]
+#[derive(Clone, Copy)]
 pub struct OpenRequest {
     /// The place of the request among all that the core began.
     pub number: u64,

@@ -6,7 +6,7 @@ use crate::cqlp_tcp_connections::totals::ConnectionTotals;
 use crate::cqlp_tcp_reassembly::StreamStep;
 
 /// What a segment is to a table.
-#[derive(Clone, Copy, Debug, PartialEq, Eq)]
+#[derive(Clone, Copy)]
 pub enum Admission {
     /// Neither of its ports is asked for. It was counted, and that is all.
     Foreign,
@@ -18,7 +18,7 @@ pub enum Admission {
 }
 
 /// What is reported of one direction of a connection.
-#[derive(Clone, Copy, Debug, PartialEq, Eq)]
+#[derive(Clone, Copy)]
 pub struct Delivery {
     /// The number of the connection.
     pub number: u64,
@@ -32,7 +32,7 @@ pub struct Delivery {
 }
 
 /// What is reported of one direction of a connection whose ends its pool has.
-#[derive(Clone, Copy, Debug, PartialEq, Eq)]
+#[derive(Clone, Copy)]
 pub(crate) struct WayStep {
     pub(crate) number: u64,
     pub(crate) way: Way,
@@ -56,7 +56,7 @@ pub(crate) fn between(ends: Ends, step: Option<WayStep>) -> Option<Delivery> {
 }
 
 /// What is reported of a connection that leaves.
-#[derive(Clone, Copy, Debug, PartialEq, Eq)]
+#[derive(Clone, Copy)]
 pub enum Departure {
     /// What it still has.
     Delivery(Delivery),

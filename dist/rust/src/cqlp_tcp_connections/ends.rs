@@ -8,7 +8,7 @@ use std::hash::{Hash, Hasher};
 pub const DEFAULT_PORT: u16 = 9042;
 
 /// Which way the bytes of a direction go.
-#[derive(Clone, Copy, Debug, PartialEq, Eq)]
+#[derive(Clone, Copy, PartialEq, Eq)]
 pub enum Way {
     /// From the client to the node.
     Requests,
@@ -17,7 +17,7 @@ pub enum Way {
 }
 
 /// The ends of a connection.
-#[derive(Clone, Copy, Debug, PartialEq, Eq)]
+#[derive(Clone, Copy, PartialEq, Eq)]
 pub struct Ends {
     /// From which requests come.
     pub client: Endpoint,

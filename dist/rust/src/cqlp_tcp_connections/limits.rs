@@ -2,7 +2,7 @@
 //! The limits that a caller sets, and why a table is not made.
 
 /// What a table of connections holds at most.
-#[derive(Clone, Copy, Debug, PartialEq, Eq)]
+#[derive(Clone, Copy)]
 pub struct ConnectionLimits {
     /// How many connections there are at one time: 1 to 1,048,576.
     pub connections: u32,

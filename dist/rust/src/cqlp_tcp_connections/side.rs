@@ -8,7 +8,7 @@ use crate::cqlp_tcp_reassembly::{Stream, StreamSegment, StreamStep};
 use crate::kit_std::alloc::{AllocError, Allocator};
 
 /// What a stream reports, and after how many bytes and bytes of gaps.
-#[derive(Clone, Copy, Debug, PartialEq, Eq)]
+#[derive(Clone, Copy)]
 pub(crate) struct SideStep {
     pub(crate) at: u64,
     pub(crate) step: StreamStep,

@@ -14,7 +14,7 @@ use crate::kit_std::alloc::{AllocError, Allocator, Global};
 const LONGEST: u64 = 1 << 62;
 
 /// How far a stream is.
-#[derive(Clone, Copy, Debug, PartialEq, Eq)]
+#[derive(Clone, Copy)]
 pub(crate) enum Stage {
     Unseen,
     Open,

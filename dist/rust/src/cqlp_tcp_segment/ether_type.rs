@@ -5,7 +5,7 @@ use crate::cqlp_tcp_segment::fields::number_16;
 use crate::cqlp_tcp_segment::reason::NoSegment;
 
 /// A version of IP.
-#[derive(Clone, Copy, Debug, PartialEq, Eq)]
+#[derive(Clone, Copy)]
 pub(crate) enum IpVersion {
     V4,
     V6,

@@ -8,7 +8,7 @@ use crate::cqlp_kind::Scalar;
 use crate::cqlp_note::Address;
 
 /// A word of a line.
-#[derive(Clone, Copy, Debug, PartialEq, Eq)]
+#[derive(Clone, Copy)]
 pub enum Word<'a> {
     Name(&'a str),
     /// A text that someone else wrote, in one line.

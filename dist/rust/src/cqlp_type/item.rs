@@ -5,7 +5,7 @@ use crate::cqlp_kind::Kind;
 use crate::cqlp_note::{Field, Refusal};
 
 /// A part of a type option. Section 4.2.5.2 of `native_protocol_v4.spec`.
-#[derive(Clone, Copy, Debug, PartialEq, Eq)]
+#[derive(Clone, Copy)]
 pub enum TypeItem<'a> {
     /// The id of an option, of the type itself or of an inner one.
     Node(Kind),
@@ -16,7 +16,7 @@ pub enum TypeItem<'a> {
 }
 
 /// What a piece of input made of a type option.
-#[derive(Clone, Copy, Debug, PartialEq, Eq)]
+#[derive(Clone, Copy)]
 pub enum TypePush<'a> {
     /// All of it was used, and the option goes on.
     More {
