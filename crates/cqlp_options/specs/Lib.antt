@@ -1,3 +1,4 @@
+pub mod Calendar
 pub mod CaptureLimits
 pub mod CommandLines
 pub mod Ends

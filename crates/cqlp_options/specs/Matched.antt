@@ -19,6 +19,9 @@ use Rattle.cqlp_options.specs.declared.capture.SummaryBy.TheVariants as by
 use Rattle.cqlp_options.specs.declared.command_line.CommandLine.{CommandLine}
 use Rattle.cqlp_options.specs.declared.command_line.CommandLine.TheVariants as line
 use Rattle.cqlp_options.specs.declared.end.AskedEnd.{AskedEnd}
+use Rattle.cqlp_options.specs.declared.time.AskedTime.{AskedTime}
+use Rattle.cqlp_options.specs.declared.time.AskedTime.TheVariants as asked_time
+use Rattle.cqlp_options.specs.Calendar.{IsTimeAt}
 use Rattle.cqlp_options.specs.declared.limits.CaptureLimits.{CaptureLimits}
 use Rattle.cqlp_options.specs.declared.options.AtRefusal.{AtRefusal}
 use Rattle.cqlp_options.specs.declared.options.AtRefusal.TheVariants as at
@@ -65,10 +68,15 @@ abbrev pub IsEnd : (option : Text) → List Row → Option AskedEnd → Type 0
 IsEnd option rows None = first_of option rows ≡ None
 IsEnd option rows (Some e) = IsSomeAnd (first_of option rows) (λ text. NamesEnd text e)
 
--- the nanoseconds in the time that is given in seconds, if one is
-abbrev pub IsTime : (option : Text) → List Row → Option ℕ → Type 0
+-- the nanoseconds in a time that is given in seconds, or as a time of the calendar
+abbrev pub IsTimeOf : List ℕ → AskedTime → Type 0
+IsTimeOf text (asked_time.After n) = nanoseconds_of text ≡ Some n
+IsTimeOf text (asked_time.At n) = IsTimeAt text n
+
+-- the time that is given, if one is
+abbrev pub IsTime : (option : Text) → List Row → Option AskedTime → Type 0
 IsTime option rows None = first_of option rows ≡ None
-IsTime option rows (Some n) = IsSomeAnd (first_of option rows) (λ text. nanoseconds_of text ≡ Some n)
+IsTime option rows (Some t) = IsSomeAnd (first_of option rows) (λ text. IsTimeOf text t)
 
 -- the text that is given
 abbrev pub IsText : (option : Text) → List Row → Option (Bor Text) → Type 0

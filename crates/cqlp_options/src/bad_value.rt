@@ -1,7 +1,7 @@
 //! Values of options that are none.
 
 /// What is wrong with the value of an option that the parser takes.
-#[derive(Clone, Copy, Debug, PartialEq, Eq)]
+#[derive(Clone, Copy)]
 pub(crate) enum BadValue {
     /// A number is not in its range.
     Range,
@@ -37,10 +37,12 @@ impl BadValue {
                 "invalid value for '--node <ADDRESS>': it is no ADDRESS, and no ADDRESS:PORT or [ADDRESS]:PORT"
             }
             BadValue::From => {
-                "invalid value for '--from <SECONDS>': it is no number of seconds with up to nine digits after the point"
+                "invalid value for '--from <TIME>': it is no number of seconds, and no time in UTC such as 2026-11-29T10:15:30Z, with up to nine digits after \
+                 the point"
             }
             BadValue::To => {
-                "invalid value for '--to <SECONDS>': it is no number of seconds with up to nine digits after the point"
+                "invalid value for '--to <TIME>': it is no number of seconds, and no time in UTC such as 2026-11-29T10:15:30Z, with up to nine digits after \
+                 the point"
             }
             BadValue::By => {
                 "invalid value for '--by <WHAT>': it is none of statement, client, node, opcode and error"

@@ -12,7 +12,7 @@ use crate::bad_value::BadValue;
 use crate::end::{AskedEnd, NoEnd, end};
 use crate::limits::CaptureLimits;
 use crate::matched::{flag, long_number, number, path};
-use crate::time::time;
+use crate::time::{AskedTime, time};
 use clap::ArgMatches;
 use cqlp_note::Opcode;
 
@@ -20,7 +20,7 @@ use cqlp_note::Opcode;
 pub const MOST_PORTS: usize = 16;
 
 /// The ports of nodes.
-#[derive(Clone, Copy, Debug, PartialEq, Eq)]
+#[derive(Clone, Copy)]
 pub struct Ports {
     /// The ports that are named, and after them zeros.
     numbers: [u16; MOST_PORTS],
@@ -65,7 +65,7 @@ impl Ports {
 }
 
 /// How exchanges are written.
-#[derive(Clone, Copy, Debug, PartialEq, Eq)]
+#[derive(Clone, Copy)]
 pub enum ExchangesAs {
     /// A line for each.
     Lines,
@@ -98,7 +98,7 @@ impl ExchangesAs {
 }
 
 /// What the requests of a summary are counted by.
-#[derive(Clone, Copy, Debug, PartialEq, Eq)]
+#[derive(Clone, Copy)]
 pub enum SummaryBy {
     Statement {
         /// Whether statements that differ in their literals alone count each for itself.
@@ -156,7 +156,7 @@ fn attribute_named(word: &str) -> Option<SummaryBy>
 }
 
 /// Which exchanges of a capture are written, those of which all holds that is asked for, and how.
-#[derive(Clone, Copy, Debug, PartialEq, Eq)]
+#[derive(Clone, Copy)]
 pub struct ExchangeOptions<'a> {
     /// Those alone whose reply's last byte came so many milliseconds after the request's first, or more.
     pub slow: Option<u32>,
@@ -168,10 +168,10 @@ pub struct ExchangeOptions<'a> {
     pub client: Option<AskedEnd>,
     /// Those of connections of this node alone.
     pub node: Option<AskedEnd>,
-    /// Those alone that began so many nanoseconds after the capture's first packet, or later.
-    pub since: Option<u64>,
-    /// Those alone that began so many nanoseconds after the capture's first packet, or earlier.
-    pub until: Option<u64>,
+    /// Those alone that began at this time or later.
+    pub since: Option<AskedTime>,
+    /// Those alone that began at this time or earlier.
+    pub until: Option<AskedTime>,
     /// Requests alone whose statement has this text.
     pub statement: Option<&'a str>,
     /// Those of the connection with this number alone; the first has the number 1.
@@ -205,7 +205,7 @@ impl<'a> ExchangeOptions<'a> {
 }
 
 /// What is done with a capture.
-#[derive(Clone, Copy, Debug, PartialEq, Eq)]
+#[derive(Clone, Copy)]
 pub enum CaptureTask<'a> {
     /// The bytes of each direction of each connection are written to a file in the folder with this path.
     Streams { folder: &'a str },
@@ -240,7 +240,7 @@ impl<'a> CaptureTask<'a> {
 }
 
 /// A task with a capture.
-#[derive(Clone, Copy, Debug, PartialEq, Eq)]
+#[derive(Clone, Copy)]
 pub struct CaptureOptions<'a> {
     pub task: CaptureTask<'a>,
     pub limits: CaptureLimits,

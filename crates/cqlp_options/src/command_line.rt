@@ -25,7 +25,7 @@ pub const QUERIES: LimitRange = LimitRange {
 };
 
 /// What a command line asks for.
-#[derive(Clone, Copy, Debug, PartialEq, Eq)]
+#[derive(Clone, Copy)]
 pub enum CommandLine<'a> {
     /// A task with a stream.
     Stream(Options<'a>),

@@ -11,14 +11,14 @@ use clap::ArgMatches;
 use std::net::{IpAddr, SocketAddr};
 
 /// An end of connections: an address, at the port with this number alone if there is one.
-#[derive(Clone, Copy, Debug, PartialEq, Eq)]
+#[derive(Clone, Copy)]
 pub struct AskedEnd {
     pub address: IpAddr,
     pub port: Option<u16>,
 }
 
 /// No end is named by a text.
-#[derive(Clone, Copy, Debug, PartialEq, Eq)]
+#[derive(Clone, Copy)]
 pub(crate) struct NoEnd;
 
 /// The end that an option names, if it is given.

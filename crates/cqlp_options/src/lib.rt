@@ -2,6 +2,7 @@
 #![tactic(auto)]
 
 mod bad_value;
+mod calendar;
 mod capture;
 mod command_line;
 mod end;
@@ -22,3 +23,4 @@ pub use end::AskedEnd;
 pub use limits::CaptureLimits;
 pub use no_task::NoTask;
 pub use options::{AtRefusal, DEFAULT_LIMITS, EventsAs, Options, RowsAs, Task};
+pub use time::AskedTime;

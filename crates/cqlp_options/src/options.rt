@@ -10,7 +10,7 @@ use clap::ArgMatches;
 use cqlp_note::Limits;
 
 /// What is done where a frame's body is refused. Where its header is, the reading ends.
-#[derive(Clone, Copy, Debug, PartialEq, Eq)]
+#[derive(Clone, Copy)]
 pub enum AtRefusal {
     /// The reading ends there.
     End,
@@ -31,7 +31,7 @@ impl AtRefusal {
 }
 
 /// How events are written.
-#[derive(Clone, Copy, Debug, PartialEq, Eq)]
+#[derive(Clone, Copy)]
 pub enum EventsAs {
     /// A line of text for each.
     Lines,
@@ -52,7 +52,7 @@ impl EventsAs {
 }
 
 /// How the rows of pages are written.
-#[derive(Clone, Copy, Debug, PartialEq, Eq)]
+#[derive(Clone, Copy)]
 pub enum RowsAs {
     /// The text of pages.
     Text,
@@ -77,7 +77,7 @@ impl RowsAs {
 }
 
 /// What the program does with a stream.
-#[derive(Clone, Copy, Debug, PartialEq, Eq)]
+#[derive(Clone, Copy)]
 pub enum Task {
     /// Writes its events, and the verdict beside them.
     Show(EventsAs, AtRefusal),
@@ -106,7 +106,7 @@ impl Task {
 pub const DEFAULT_LIMITS: Limits = Limits::DEFAULT;
 
 /// A task with a stream.
-#[derive(Clone, Copy, Debug, PartialEq, Eq)]
+#[derive(Clone, Copy)]
 pub struct Options<'a> {
     pub task: Task,
     pub limits: Limits,

@@ -1,28 +1,49 @@
-//! Times in seconds.
+//! Times that are asked for.
 
 ghost use Rattle.std.specs.Prelude.{◌≡◌, ◌≤◌, ◌*◌, ◌+◌, ◌-◌, IfOk, IfSome, Some};
 ghost use Rattle.clap.specs.Words.{found_of, rows_of};
-ghost use Rattle.cqlp_options.specs.Matched.{IsTime};
+ghost use Rattle.cqlp_options.specs.Matched.{IsTime, IsTimeOf};
 ghost use Rattle.cqlp_options.specs.Seconds.{is_digit, nanoseconds_of, with_digits, with_places};
 
+use crate::calendar::nanoseconds_at;
 use crate::matched::path;
 use clap::ArgMatches;
 
+/// A time that is asked for.
+#[derive(Clone, Copy)]
+pub enum AskedTime {
+    /// So many nanoseconds after the capture's first packet.
+    After(u64),
+    /// So many nanoseconds after 1970-01-01 00:00:00 UTC.
+    At(u64),
+}
+
 /// A text is no time.
-#[derive(Clone, Copy, Debug, PartialEq, Eq)]
+#[derive(Clone, Copy)]
 pub(crate) struct NoTime;
 
-/// The nanoseconds in the time that an option gives in seconds, if it is given.
-pub(crate) fn time(matches: &ArgMatches<'_>, option: &str) -> Result<Option<u64>, NoTime>
+/// The time that an option gives, if it is given.
+pub(crate) fn time(matches: &ArgMatches<'_>, option: &str) -> Result<Option<AskedTime>, NoTime>
     ensures { IfOk result (IsTime option.now (rows_of (found_of matches.now))) }
 {
     match path(matches, option) {
         Some(text) => {
-            let nanoseconds = nanoseconds_of(text.as_bytes()).ok_or(NoTime)?;
-            Ok(Some(nanoseconds))
+            let time = time_of(text.as_bytes()).ok_or(NoTime)?;
+            Ok(Some(time))
         }
         None => Ok(None),
     }
+}
+
+/// The time in a text, in seconds or of the calendar.
+fn time_of(text: &[u8]) -> Option<AskedTime>
+    ensures { IfSome result (IsTimeOf text.now) }
+{
+    if let Some(nanoseconds) = nanoseconds_of(text) {
+        return Some(AskedTime::After(nanoseconds));
+    }
+    let nanoseconds = nanoseconds_at(text)?;
+    Some(AskedTime::At(nanoseconds))
 }
 
 /// The nanoseconds in so many seconds, with up to nine digits after the point.
@@ -39,7 +60,7 @@ fn nanoseconds_of(text: &[u8]) -> Option<u64>
     }
 }
 
-fn is_digit(c: u8) -> bool
+pub(crate) fn is_digit(c: u8) -> bool
     ensures { result ≡ is_digit c }
 {
     b'0' <= c && c <= b'9'
@@ -72,7 +93,7 @@ fn with_digits(whole: u64, text: &[u8]) -> Option<u64>
 }
 
 /// The nanoseconds in these seconds, with these digits behind the point.
-fn with_places(whole: u64, text: &[u8]) -> Option<u64>
+pub(crate) fn with_places(whole: u64, text: &[u8]) -> Option<u64>
     ensures { IfSome result (λ n. with_places 9 whole text.now ≡ Some n) }
 {
     let mut n = whole;

@@ -9,6 +9,8 @@ use Rattle.cqlp_options.specs.declared.capture.ExchangesAs.TheVariants as asked_
 use Rattle.cqlp_options.specs.declared.capture.SummaryBy as options
 use Rattle.cqlp_options.specs.declared.capture.SummaryBy.TheVariants as asked_by
 use Rattle.cqlp_options.specs.declared.end.AskedEnd.{AskedEnd}
+use Rattle.cqlp_options.specs.declared.time.AskedTime.{AskedTime}
+use Rattle.cqlp_options.specs.declared.time.AskedTime.TheVariants as asked_time
 use Rattle.cqlp_options.specs.declared.limits.CaptureLimits.{CaptureLimits}
 use Rattle.cqlp_text.specs.Endings.{cannot_open_line}
 use Rattle.cqlp_render.specs.Streams.{Input, Streams, IfKnown}
@@ -17,6 +19,8 @@ use Rattle.cqlp_capture_streams.specs.Captures.{AreCounted, ReadCounts, ReadsMad
 use Rattle.cqlp_capture_streams.specs.Streams.{WritesStreamsBy}
 use Rattle.cqlp_capture_streams.specs.declared.buffering.Buffering.{Buffering}
 use Rattle.cqlp_capture_exchanges.specs.declared.filter.EndFilter.{EndFilter}
+use Rattle.cqlp_capture_exchanges.specs.declared.filter.Moment.{Moment}
+use Rattle.cqlp_capture_exchanges.specs.declared.filter.Moment.TheVariants as moment
 use Rattle.cqlp_capture_exchanges.specs.declared.filter.ExchangeFilter.{ExchangeFilter}
 use Rattle.cqlp_capture_exchanges.specs.declared.form.ExchangeForm.{ExchangeForm}
 use Rattle.cqlp_capture_exchanges.specs.declared.form.ExchangeForm.TheVariants as form
@@ -66,6 +70,11 @@ SplitsCapture l folder ports before status after =
 abbrev pub end_filter_of : AskedEnd → EndFilter
 end_filter_of e = record { address = e.address; port = e.port }
 
+-- a time that is asked for
+abbrev pub moment_of : AskedTime → Moment
+moment_of (asked_time.After n) = moment.After n
+moment_of (asked_time.At n) = moment.At n
+
 -- what is asked of exchanges, with the time in nanoseconds
 abbrev pub filter_of : ExchangeOptions → ExchangeFilter
 filter_of asked =
@@ -75,8 +84,8 @@ filter_of asked =
       opcode = asked.opcode;
       client = option_map end_filter_of asked.client;
       node = option_map end_filter_of asked.node;
-      since = asked.since;
-      until = asked.until;
+      since = option_map moment_of asked.since;
+      until = option_map moment_of asked.until;
       statement = option_map (λ text. part_of text.now) asked.statement;
       connection = asked.connection;
     }

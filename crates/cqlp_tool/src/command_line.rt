@@ -1,6 +1,6 @@
 //! The command line, from its words to the exit status.
 
-ghost use Rattle.std.specs.Prelude.{◌≡◌, ◌≢◌, ◌<◌, ◌≤◌, [], true, IfOk, IfSome, IsSome, codes};
+ghost use Rattle.std.specs.Prelude.{◌≡◌, ◌≢◌, ◌<◌, ◌≤◌, [], true, IfOk, IfSome, IsSome, codes, option_map};
 ghost use Rattle.cqlp_note.specs.Limits.{first_bad};
 ghost use Rattle.cqlp_options.specs.CommandLines.{IsWithin};
 ghost use Rattle.cqlp_options.specs.CaptureLimits.{AreWithin as AreWithinRanges};
@@ -8,7 +8,7 @@ ghost use Rattle.cqlp_options.specs.Ports.{AreWithin, named};
 ghost use Rattle.cqlp_options.specs.declared.capture.CaptureTask.TheVariants as tasks;
 ghost use Rattle.cqlp_tcp_connections.specs.Limits.{is_in_range};
 ghost use Rattle.cqlp_capture_streams.specs.declared.buffering.Buffering.TheVariants.{Line};
-ghost use Rattle.cqlp_tool.specs.Capturing.{DoesCaptureTask, IsCaptureOfInput, SplitsToFolder, end_filter_of, filter_of, form_of, summary_by};
+ghost use Rattle.cqlp_tool.specs.Capturing.{DoesCaptureTask, IsCaptureOfInput, SplitsToFolder, end_filter_of, filter_of, form_of, moment_of, summary_by};
 ghost use Rattle.cqlp_tool.specs.CommandLines.{Complains, DoesTask, Executes, Helps, NeedsNoInput, Performs, ReadsNoCapture};
 ghost use Rattle.cqlp_tool.specs.CommandLines.{ReportsFault, ReportsWrong, PrintsNoTask, form_of_events, form_of_rows, rules_for};
 ghost use Rattle.cqlp_tool.specs.Files.{DoesOn};
@@ -24,7 +24,7 @@ use crate::marks::MARK;
 use crate::progress::Progress;
 use cqlp_capture_events::write_events;
 use cqlp_capture_exchanges::{
-    Attribute, EndFilter, ExchangeFilter, ExchangeForm, Naming, StatementPart, SummaryBy,
+    Attribute, EndFilter, ExchangeFilter, ExchangeForm, Moment, Naming, StatementPart, SummaryBy,
     write_exchanges,
 };
 use cqlp_capture_rows::write_rows;
@@ -32,8 +32,8 @@ use cqlp_capture_streams::{Buffering, StreamsLimits, write_streams};
 use cqlp_decode::SinkFault;
 use cqlp_note::{OfStd, Source, Target};
 use cqlp_options::{
-    AskedEnd, AtRefusal, CaptureOptions, CaptureTask, CommandLine, DEFAULT_LIMITS, EventsAs,
-    ExchangeOptions, ExchangesAs, NoTask, Options, RowsAs, SummaryBy as AskedBy, Task,
+    AskedEnd, AskedTime, AtRefusal, CaptureOptions, CaptureTask, CommandLine, DEFAULT_LIMITS,
+    EventsAs, ExchangeOptions, ExchangesAs, NoTask, Options, RowsAs, SummaryBy as AskedBy, Task,
 };
 use cqlp_render::{TextForm, check, conclude, show, show_as};
 use cqlp_render_skip::{check_skipping, show_skipping};
@@ -310,8 +310,8 @@ fn filter_of(asked: ExchangeOptions<'_>) -> ExchangeFilter
         opcode,
         client: client.map(end_filter_of),
         node: node.map(end_filter_of),
-        since,
-        until,
+        since: moment_of(since),
+        until: moment_of(until),
         statement: statement.map(StatementPart::of),
         connection,
     }
@@ -323,6 +323,16 @@ fn end_filter_of(asked: AskedEnd) -> EndFilter
     EndFilter {
         address: asked.address,
         port: asked.port,
+    }
+}
+
+fn moment_of(asked: Option<AskedTime>) -> Option<Moment>
+    ensures { result ≡ option_map moment_of asked }
+{
+    match asked {
+        Some(AskedTime::After(nanoseconds)) => Some(Moment::After(nanoseconds)),
+        Some(AskedTime::At(nanoseconds)) => Some(Moment::At(nanoseconds)),
+        None => None,
     }
 }
 

@@ -6,14 +6,14 @@ use crate::clap::ArgMatches;
 use crate::kit_host::net::{IpAddr, SocketAddr};
 
 /// An end of connections: an address, at the port with this number alone if there is one.
-#[derive(Clone, Copy, Debug, PartialEq, Eq)]
+#[derive(Clone, Copy)]
 pub struct AskedEnd {
     pub address: IpAddr,
     pub port: Option<u16>,
 }
 
 /// No end is named by a text.
-#[derive(Clone, Copy, Debug, PartialEq, Eq)]
+#[derive(Clone, Copy)]
 pub(crate) struct NoEnd;
 
 /// The end that an option names, if it is given.

@@ -6,7 +6,7 @@ use crate::clap::ArgMatches;
 use crate::cqlp_note::LimitRange;
 
 /// What is kept of a capture at one time at most. None of these numbers ends a reading: what is left out because of one is counted.
-#[derive(Clone, Copy, Debug, PartialEq, Eq)]
+#[derive(Clone, Copy)]
 pub struct CaptureLimits {
     /// Connections: 1 to 1,048,576.
     pub connections: u32,

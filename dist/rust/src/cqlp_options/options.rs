@@ -6,7 +6,7 @@ use crate::clap::ArgMatches;
 use crate::cqlp_note::Limits;
 
 /// What is done where a frame's body is refused. Where its header is, the reading ends.
-#[derive(Clone, Copy, Debug, PartialEq, Eq)]
+#[derive(Clone, Copy)]
 pub enum AtRefusal {
     /// The reading ends there.
     End,
@@ -25,7 +25,7 @@ impl AtRefusal {
 }
 
 /// How events are written.
-#[derive(Clone, Copy, Debug, PartialEq, Eq)]
+#[derive(Clone, Copy)]
 pub enum EventsAs {
     /// A line of text for each.
     Lines,
@@ -44,7 +44,7 @@ impl EventsAs {
 }
 
 /// How the rows of pages are written.
-#[derive(Clone, Copy, Debug, PartialEq, Eq)]
+#[derive(Clone, Copy)]
 pub enum RowsAs {
     /// The text of pages.
     Text,
@@ -67,7 +67,7 @@ impl RowsAs {
 }
 
 /// What the program does with a stream.
-#[derive(Clone, Copy, Debug, PartialEq, Eq)]
+#[derive(Clone, Copy)]
 pub enum Task {
     /// Writes its events, and the verdict beside them.
     Show(EventsAs, AtRefusal),
@@ -94,7 +94,7 @@ impl Task {
 pub const DEFAULT_LIMITS: Limits = Limits::DEFAULT;
 
 /// A task with a stream.
-#[derive(Clone, Copy, Debug, PartialEq, Eq)]
+#[derive(Clone, Copy)]
 pub struct Options<'a> {
     pub task: Task,
     pub limits: Limits,

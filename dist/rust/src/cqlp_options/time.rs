@@ -1,22 +1,41 @@
 // Written by dist/erase from crates/cqlp_options/src/time.rt.
-//! Times in seconds.
+//! Times that are asked for.
 
+use crate::cqlp_options::calendar::nanoseconds_at;
 use crate::cqlp_options::matched::path;
 use crate::clap::ArgMatches;
 
+/// A time that is asked for.
+#[derive(Clone, Copy)]
+pub enum AskedTime {
+    /// So many nanoseconds after the capture's first packet.
+    After(u64),
+    /// So many nanoseconds after 1970-01-01 00:00:00 UTC.
+    At(u64),
+}
+
 /// A text is no time.
-#[derive(Clone, Copy, Debug, PartialEq, Eq)]
+#[derive(Clone, Copy)]
 pub(crate) struct NoTime;
 
-/// The nanoseconds in the time that an option gives in seconds, if it is given.
-pub(crate) fn time(matches: &ArgMatches<'_>, option: &str) -> Result<Option<u64>, NoTime> {
+/// The time that an option gives, if it is given.
+pub(crate) fn time(matches: &ArgMatches<'_>, option: &str) -> Result<Option<AskedTime>, NoTime> {
     match path(matches, option) {
         Some(text) => {
-            let nanoseconds = nanoseconds_of(text.as_bytes()).ok_or(NoTime)?;
-            Ok(Some(nanoseconds))
+            let time = time_of(text.as_bytes()).ok_or(NoTime)?;
+            Ok(Some(time))
         }
         None => Ok(None),
     }
+}
+
+/// The time in a text, in seconds or of the calendar.
+fn time_of(text: &[u8]) -> Option<AskedTime> {
+    if let Some(nanoseconds) = nanoseconds_of(text) {
+        return Some(AskedTime::After(nanoseconds));
+    }
+    let nanoseconds = nanoseconds_at(text)?;
+    Some(AskedTime::At(nanoseconds))
 }
 
 /// The nanoseconds in so many seconds, with up to nine digits after the point.
@@ -31,7 +50,7 @@ fn nanoseconds_of(text: &[u8]) -> Option<u64> {
     }
 }
 
-fn is_digit(c: u8) -> bool {
+pub(crate) fn is_digit(c: u8) -> bool {
     b'0' <= c && c <= b'9'
 }
 
@@ -57,7 +76,7 @@ fn with_digits(whole: u64, text: &[u8]) -> Option<u64> {
 }
 
 /// The nanoseconds in these seconds, with these digits behind the point.
-fn with_places(whole: u64, text: &[u8]) -> Option<u64> {
+pub(crate) fn with_places(whole: u64, text: &[u8]) -> Option<u64> {
     let mut n = whole;
     let mut places: u32 = 9;
     for at in 0..text.len() {

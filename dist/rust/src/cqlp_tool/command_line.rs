@@ -9,7 +9,7 @@ use crate::cqlp_tool::marks::MARK;
 use crate::cqlp_tool::progress::Progress;
 use crate::cqlp_capture_events::write_events;
 use crate::cqlp_capture_exchanges::{
-    Attribute, EndFilter, ExchangeFilter, ExchangeForm, Naming, StatementPart, SummaryBy,
+    Attribute, EndFilter, ExchangeFilter, ExchangeForm, Moment, Naming, StatementPart, SummaryBy,
     write_exchanges,
 };
 use crate::cqlp_capture_rows::write_rows;
@@ -17,8 +17,8 @@ use crate::cqlp_capture_streams::{Buffering, StreamsLimits, write_streams};
 use crate::cqlp_decode::SinkFault;
 use crate::cqlp_note::{OfStd, Source, Target};
 use crate::cqlp_options::{
-    AskedEnd, AtRefusal, CaptureOptions, CaptureTask, CommandLine, DEFAULT_LIMITS, EventsAs,
-    ExchangeOptions, ExchangesAs, NoTask, Options, RowsAs, SummaryBy as AskedBy, Task,
+    AskedEnd, AskedTime, AtRefusal, CaptureOptions, CaptureTask, CommandLine, DEFAULT_LIMITS,
+    EventsAs, ExchangeOptions, ExchangesAs, NoTask, Options, RowsAs, SummaryBy as AskedBy, Task,
 };
 use crate::cqlp_render::{TextForm, check, conclude, show, show_as};
 use crate::cqlp_render_skip::{check_skipping, show_skipping};
@@ -244,8 +244,8 @@ fn filter_of(asked: ExchangeOptions<'_>) -> ExchangeFilter {
         opcode,
         client: client.map(end_filter_of),
         node: node.map(end_filter_of),
-        since,
-        until,
+        since: moment_of(since),
+        until: moment_of(until),
         statement: statement.map(StatementPart::of),
         connection,
     }
@@ -255,6 +255,14 @@ fn end_filter_of(asked: AskedEnd) -> EndFilter {
     EndFilter {
         address: asked.address,
         port: asked.port,
+    }
+}
+
+fn moment_of(asked: Option<AskedTime>) -> Option<Moment> {
+    match asked {
+        Some(AskedTime::After(nanoseconds)) => Some(Moment::After(nanoseconds)),
+        Some(AskedTime::At(nanoseconds)) => Some(Moment::At(nanoseconds)),
+        None => None,
     }
 }
 

@@ -1,4 +1,5 @@
 //! What a program has of the kit and a library has not: a runtime, files, sockets, words; and what the kit's clap has of std.
+pub mod calendar;
 pub mod env;
 pub mod fs;
 pub mod items;
