@@ -86,14 +86,23 @@ def first_moment(of):
     return int(moment.timestamp()) + Decimal(of["utc"][19:-1]) - of["time"]
 
 
+def name_of(of):
+    """What a request is counted under in a summary by statement, with literals."""
+    word = "BATCH " if of["request"] == "BATCH" else ""
+    if of["statement"] is not None:
+        return word + "".join(shown(of["statement"], of["statement_is_whole"]))
+    if of["id"] is None:
+        return of["request"]
+    name = f"{of['request']} {of['id']}" + ("" if of["statement_is_whole"] else "..")
+    return name if len(name) <= 256 else name[:256] + ".."
+
+
 def sums(objects):
     """How often each statement was asked for, its errors, how many were not answered, its rows and bytes."""
     found = collections.OrderedDict()
     for of in objects:
         if of["told"] in ("exchange", "unanswered"):
-            word = "BATCH " if of["request"] == "BATCH" else ""
-            name = of["request"] if of["statement"] is None else word + "".join(shown(of["statement"], of["statement_is_whole"]))
-            count = found.setdefault(name, [0, 0, 0, 0, 0])
+            count = found.setdefault(name_of(of), [0, 0, 0, 0, 0])
             is_unanswered = of["told"] == "unanswered"
             sizes = of["request_bytes"] + of.get("response_bytes", 0)
             for at, more in enumerate([1, of.get("error") is not None, is_unanswered, of.get("rows") or 0, sizes]):

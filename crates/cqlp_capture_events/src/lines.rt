@@ -16,7 +16,7 @@ use cqlp_type::TypeTable;
 use std::alloc::Allocator;
 
 /// The lines of one direction of a connection.
-#[derive(Clone, Copy, Debug, PartialEq, Eq)]
+#[derive(Clone, Copy)]
 pub(crate) struct Lines {
     pub(crate) place: LinePlace,
     /// How many frames were not read, as there was no room for their decoders.

@@ -9,7 +9,7 @@ use cqlp_grammar::SinkFault;
 use cqlp_text::{Pen, TextWriter};
 
 /// How many frames were not read.
-#[derive(Clone, Copy, Debug, PartialEq, Eq)]
+#[derive(Clone, Copy)]
 pub(crate) struct EventsWords {
     pub(crate) unread: u64,
 }

@@ -19,6 +19,8 @@ use Rattle.cqlp_tcp_connections.specs.declared.ends.Ends.{Ends}
 use Rattle.cqlp_capture_exchanges.specs.declared.connection.Connection.{Connection}
 use Rattle.cqlp_capture_exchanges.specs.declared.filter.EndFilter.{EndFilter}
 use Rattle.cqlp_capture_exchanges.specs.declared.filter.ExchangeFilter.{ExchangeFilter}
+use Rattle.cqlp_capture_exchanges.specs.declared.filter.Moment.{Moment}
+use Rattle.cqlp_capture_exchanges.specs.declared.filter.Moment.TheVariants as moment
 use Rattle.cqlp_capture_exchanges.specs.declared.part.StatementPart.{StatementPart}
 use Rattle.cqlp_capture_exchanges.specs.Parts.{bytes_of, is_part}
 use Rattle.cqlp_capture_exchanges.specs.Prepared.{named, Preparation}
@@ -107,7 +109,7 @@ abbrev pub is_asking : (asked : Option Opcode) → Report → Bool
 is_asking None r = true
 is_asking (Some o) r = reported_asking o r
 
--- ---- Its first byte came at a time that is asked for, since the first packet.
+-- ---- Its first byte came at a time that is asked for: since the first packet, or since 1970-01-01 00:00:00 UTC.
 
 abbrev pub begun_in : Paired Kept → Option ℕ
 begun_in (Exchange request response) = request.frame.begun
@@ -119,20 +121,22 @@ abbrev pub begun : Report → Option ℕ
 begun (Messages t end) = begun_in t
 begun (Unread time o) = time
 
-abbrev pub is_since : (asked : Option ℕ) → Option Span → Bool
-is_since None time = true
-is_since (Some least) time = is_at_least least time
+abbrev pub is_since : (asked : Option Moment) → (first time : Option ℕ) → Bool
+is_since None first time = true
+is_since (Some (moment.After least)) first time = is_at_least least (time_between first time)
+is_since (Some (moment.At least)) first time = is_at_least least (time_between (Some 0) time)
 
 abbrev pub is_at_most : (most : ℕ) → Option Span → Bool
 is_at_most most None = false
 is_at_most most (Some s) = s.is_before || nat_le s.nanoseconds most
 
-abbrev pub is_until : (asked : Option ℕ) → Option Span → Bool
-is_until None time = true
-is_until (Some most) time = is_at_most most time
+abbrev pub is_until : (asked : Option Moment) → (first time : Option ℕ) → Bool
+is_until None first time = true
+is_until (Some (moment.After most)) first time = is_at_most most (time_between first time)
+is_until (Some (moment.At most)) first time = is_at_most most (time_between (Some 0) time)
 
-abbrev pub is_within : ExchangeFilter → Option Span → Bool
-is_within f time = is_since f.since time && is_until f.until time
+abbrev pub is_within : ExchangeFilter → (first time : Option ℕ) → Bool
+is_within f first time = is_since f.since first time && is_until f.until first time
 
 -- ---- The text of its statement, as far as it is known, has the part that is asked for.
 
@@ -163,5 +167,5 @@ is_saying (Some part) known r = reported_saying known (bytes_of part) r
 abbrev pub shows : ExchangeFilter → (known : List Preparation) → (first : Option ℕ) → Connection → Report → Bool
 shows f known first n r =
     is_of f.connection n.number && is_between f n.ends && is_slow f.slow r
-    && (not f.errors || is_trouble r) && is_asking f.opcode r && is_within f (time_between first (begun r))
+    && (not f.errors || is_trouble r) && is_asking f.opcode r && is_within f first (begun r)
     && is_saying f.statement known r

@@ -1,5 +1,5 @@
 -- Requests with their responses, counted in a summary.
-use Rattle.std.specs.Prelude.{ℕ, ◌+◌, ℤ, pos, int_lt, unsigned_abs, Bool, true, false, ◌&&◌, nat_le, List, ◌++◌, codes, length, take, Option, Some, None, if◌then◌else◌}
+use Rattle.std.specs.Prelude.{ℕ, ◌+◌, ℤ, pos, int_lt, unsigned_abs, Bool, true, false, ◌&&◌, nat_le, List, [], ◌∷◌, ◌++◌, codes, length, take, Option, Some, None, if◌then◌else◌}
 use Rattle.cqlp_note.specs.Heading.{beside_number}
 use Rattle.cqlp_note.specs.declared.opcode.Opcode.{Opcode}
 use Rattle.cqlp_note.specs.declared.opcode.Opcode.TheVariants as opcode
@@ -19,7 +19,7 @@ use Rattle.cqlp_capture_exchanges.specs.declared.summary_by.Attribute.TheVariant
 use Rattle.cqlp_capture_exchanges.specs.declared.summary_by.SummaryBy.{SummaryBy}
 use Rattle.cqlp_capture_exchanges.specs.declared.summary_by.SummaryBy.TheVariants as by
 use Rattle.cqlp_capture_exchanges.specs.Ends.{end_text, ip_text}
-use Rattle.cqlp_capture_exchanges.specs.Lines.{name_or_number}
+use Rattle.cqlp_capture_exchanges.specs.Lines.{name_or_number, said_text}
 use Rattle.cqlp_capture_exchanges.specs.Prepared.{named, Preparation}
 use Rattle.cqlp_capture_exchanges.specs.Replies.{error_names, reply}
 use Rattle.cqlp_capture_exchanges.specs.Reports.{Report, Messages, Unread}
@@ -29,7 +29,8 @@ use Rattle.cqlp_capture_exchanges.specs.declared.outcome.Outcome.{Outcome}
 use Rattle.cqlp_capture_exchanges.specs.declared.span.Span.{Span}
 use Rattle.cqlp_capture_exchanges.specs.Filters.{is_error as is_error_opcode, is_failure}
 use Rattle.cqlp_capture_exchanges.specs.Spans.{took}
-use Rattle.cqlp_capture_exchanges.specs.Statements.{Said, Text, statement}
+use Rattle.cqlp_capture_exchanges.specs.Statements.{Said, Text, Id, statement}
+use Rattle.cqlp_capture_exchanges.specs.Times.{joined}
 
 -- A time that went back is not known.
 abbrev pub nanoseconds_in : Option Span → Option ℕ
@@ -73,8 +74,8 @@ request_as name is_whole_name o = record {
   at = o.at;
 }
 
--- ---- what a request is called: the text of its statement, or where that is not known its opcode. A BATCH is called by its first statement, behind a
--- word.
+-- ---- what a request is called: the text of its statement, its opcode with the id of its statement where that has no text, or its opcode. A BATCH is
+-- called by its first statement, behind a word.
 
 abbrev pub is_batch : Opcode → Bool
 is_batch opcode.Batch = true
@@ -91,18 +92,26 @@ text_request text is_whole q o =
 abbrev pub opcode_request : Message Kept → Outcome → Request
 opcode_request q o = request_as (opcode_name q.frame.header.opcode) true o
 
-abbrev pub request_named : Option Said → Message Kept → Outcome → Request
-request_named (Some (Text text is_whole)) q o = text_request text is_whole q o
-request_named s q o = opcode_request q o
+-- as the line has it
+abbrev pub id_name : Opcode → (id : List ℕ) → (is_whole : Bool) → List ℕ
+id_name o id is_whole = joined (opcode_name o ∷ said_text (Id id is_whole) ∷ [])
 
--- ---- counted, by the fingerprint of its name or by the name itself
+abbrev pub id_request : (id : List ℕ) → (is_whole : Bool) → Message Kept → Outcome → Request
+id_request id is_whole q o = request_as (id_name q.frame.header.opcode id is_whole) true o
+
+-- ---- counted, by the fingerprint of its name or by the name itself, as by an id
 
 abbrev pub noted_as : Naming → Request → Summary → Summary
 noted_as naming.Fingerprint r s = noted_by_fingerprint r s
 noted_as naming.Literal r s = noted_request r s
 
+abbrev pub noted_named : Naming → Option Said → Message Kept → Outcome → Summary → Summary
+noted_named n (Some (Text text is_whole)) q o s = noted_as n (text_request text is_whole q o) s
+noted_named n (Some (Id id is_whole)) q o s = noted_request (id_request id is_whole q o) s
+noted_named n None q o s = noted_as n (opcode_request q o) s
+
 abbrev pub with_request : Naming → (known : List Preparation) → Message Kept → Outcome → Summary → Summary
-with_request n known q o s = noted_as n (request_named (named known (statement q.frame.header q.kept.front)) q o) s
+with_request n known q o s = noted_named n (named known (statement q.frame.header q.kept.front)) q o s
 
 -- ---- the error of a reply
 

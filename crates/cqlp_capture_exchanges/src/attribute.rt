@@ -1,14 +1,14 @@
-//! Attributes of requests as text.
+//! What requests are counted under in a summary, other than the texts of their statements.
 
 ghost use Rattle.std.specs.Prelude.{◌≡◌};
 ghost use Rattle.cqlp_text.specs.Outputs.{AppendsText, written};
 ghost use Rattle.cqlp_text.specs.Written.{Writes};
-ghost use Rattle.cqlp_capture_exchanges.specs.Notings.{error_text, name_by, no_code_text, no_error_text, reply_error_text};
+ghost use Rattle.cqlp_capture_exchanges.specs.Notings.{error_text, id_name, name_by, no_code_text, no_error_text, reply_error_text};
 
 use crate::connection::Connection;
 use crate::end::{put_end, put_ip};
 use crate::filter::is_error;
-use crate::lines::put_name;
+use crate::lines::{put_id, put_name};
 use crate::outcome::Outcome;
 use crate::reply::{Reply, error_name};
 use crate::summary_by::Attribute;
@@ -36,6 +36,37 @@ pub(crate) fn append_attribute<W: Target, A: Allocator>(
     let passed_on = writer.flush();
     let _ = writer.into_target();
     passed_on
+}
+
+/// Appends the opcode of a request and the id of its statement, as the request's line has it. Takes no memory.
+pub(crate) fn append_id<W: Target>(
+    opcode: Opcode,
+    id: &[u8],
+    is_whole: bool,
+    target: &mut W,
+) -> Result<(), SinkFault>
+    ensures { AppendsText (written W.Target target.old) (id_name opcode id.now is_whole) result (written W.Target target.new) }
+{
+    let mut writer = TextWriter::over(target);
+    let Ok(()) = put_id_name(&mut writer, opcode, id, is_whole) else {
+        let _ = writer.into_target();
+        return Err(SinkFault);
+    };
+    let passed_on = writer.flush();
+    let _ = writer.into_target();
+    passed_on
+}
+
+fn put_id_name<P: Pen>(
+    writer: &mut TextWriter<P>,
+    opcode: Opcode,
+    id: &[u8],
+    is_whole: bool,
+) -> Result<(), SinkFault>
+    ensures { Writes writer.old (id_name opcode id.now is_whole) result writer.new }
+{
+    writer.put_str(opcode_name(opcode))?;
+    put_id(writer, id, is_whole)
 }
 
 fn put_attribute<P: Pen, A: Allocator>(

@@ -60,7 +60,7 @@ pub fn write_exchanges<R: Source, O: Target, E: Target>(
 }
 
 /// What was reported of a capture's connections, and what was missed.
-#[derive(Clone, Copy, Debug, PartialEq, Eq)]
+#[derive(Clone, Copy)]
 struct Counts {
     sums: ExchangeSums,
     missed: Missed,
@@ -199,7 +199,7 @@ fn conclude<E: Target>(
 }
 
 /// What the last line says of the connections: the sums, and what was missed.
-#[derive(Clone, Copy, Debug, PartialEq, Eq)]
+#[derive(Clone, Copy)]
 struct LastCounts {
     sums: ExchangeSums,
     losses: Losses,

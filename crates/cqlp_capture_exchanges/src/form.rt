@@ -6,7 +6,7 @@ ghost use Rattle.cqlp_capture_exchanges.specs.Forms.{statements_in};
 use crate::summary_by::SummaryBy;
 
 /// How exchanges are written.
-#[derive(Clone, Copy, Debug, PartialEq, Eq)]
+#[derive(Clone, Copy)]
 pub enum ExchangeForm {
     /// A line for each, as soon as the last byte of the response is there.
     Lines,

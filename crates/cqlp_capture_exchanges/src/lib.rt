@@ -34,7 +34,7 @@ mod table;
 
 pub use capturing::write_exchanges;
 pub use exchanges::Exchanges;
-pub use filter::{EndFilter, ExchangeFilter};
+pub use filter::{EndFilter, ExchangeFilter, Moment};
 pub use form::ExchangeForm;
 pub use naming::Naming;
 pub use part::StatementPart;

@@ -435,7 +435,11 @@ fn put_text<P: Pen>(writer: &mut TextWriter<P>, text: &str, is_whole: bool) -> R
     writer.put_str(more(is_whole))
 }
 
-fn put_id<P: Pen>(writer: &mut TextWriter<P>, id: &[u8], is_whole: bool) -> Result<(), SinkFault>
+pub(crate) fn put_id<P: Pen>(
+    writer: &mut TextWriter<P>,
+    id: &[u8],
+    is_whole: bool,
+) -> Result<(), SinkFault>
     ensures { Writes writer.old (said_text (Id id.now is_whole)) result writer.new }
 {
     writer.put(b" ")?;

@@ -1,7 +1,7 @@
 //! What makes two requests ones of the same statement.
 
 /// What makes two requests ones of the same statement in a summary.
-#[derive(Clone, Copy, Debug, PartialEq, Eq)]
+#[derive(Clone, Copy)]
 pub enum Naming {
     /// Texts that differ in their literals, white space and comments alone.
     Fingerprint,

@@ -1,13 +1,14 @@
 //! Requests with what came of them, counted in a summary.
 
 ghost use Rattle.std.specs.Prelude.{◌≡◌, ◌&&◌, length, nat_le};
+ghost use Rattle.cqlp_capture_summary.specs.Summaries.{noted_request};
 ghost use Rattle.cqlp_capture_exchanges.specs.Reports.{report_of};
 ghost use Rattle.cqlp_capture_exchanges.specs.Forms.{noted_in};
-ghost use Rattle.cqlp_capture_exchanges.specs.Notings.{answered_by, is_batch, nanoseconds_in, noted_as, opcode_request, request_as};
+ghost use Rattle.cqlp_capture_exchanges.specs.Notings.{answered_by, id_request, is_batch, nanoseconds_in, noted_as, opcode_request, request_as};
 ghost use Rattle.cqlp_capture_exchanges.specs.Notings.{rows_in, text_request, unanswered, with_attribute, with_paired};
 ghost use Rattle.cqlp_capture_exchanges.specs.Notings.{with_report, with_request, with_request_by};
 
-use crate::attribute::append_attribute;
+use crate::attribute::{append_attribute, append_id};
 use crate::batch_name::{MOST, batch_name};
 use crate::connection::Connection;
 use crate::filter::is_failure;
@@ -166,7 +167,7 @@ fn note_request<A: Allocator, B: Allocator>(
         Some(Statement::Text { text, is_whole }) => {
             note_text(summary, naming, text, is_whole, request, outcome);
         }
-        Some(Statement::Id { .. }) => note_opcode(summary, naming, request, outcome),
+        Some(Statement::Id { id, is_whole }) => note_id(summary, id, is_whole, request, outcome),
         None => note_opcode(summary, naming, request, outcome),
     }
 }
@@ -203,7 +204,28 @@ fn has_all(text: &str, is_whole: bool) -> bool
     is_whole && text.len() <= MOST
 }
 
-/// Counts a request under its opcode, where the text of its statement is not known.
+/// Counts a request under its opcode and the id of its statement, whose text is not known.
+fn note_id<A: Allocator, B: Allocator>(
+    summary: &mut Summary<A>,
+    id: &[u8],
+    is_whole: bool,
+    request: &Message<Kept<B>>,
+    outcome: &Outcome,
+)
+    ensures { summary.new ≡ noted_request (id_request id.now is_whole request.now outcome.now) summary.old }
+{
+    let mut label = Label::new();
+    let appended = append_id(request.frame.header.opcode, id, is_whole, &mut label);
+    note_as(
+        summary,
+        Naming::Literal,
+        label.as_slice(),
+        appended.is_ok(),
+        outcome,
+    );
+}
+
+/// Counts a request under its opcode, where its statement is not known.
 fn note_opcode<A: Allocator, B: Allocator>(
     summary: &mut Summary<A>,
     naming: Naming,

@@ -10,7 +10,7 @@ use crate::statement::{Statement, has, string_in};
 use cqlp_note::{Header, Opcode};
 
 /// What a response is.
-#[derive(Clone, Copy, Debug, PartialEq, Eq)]
+#[derive(Clone, Copy)]
 pub(crate) enum Reply {
     /// A RESULT of this kind. Section 4.2.5 of `native_protocol_v4.spec`.
     Result(u32),

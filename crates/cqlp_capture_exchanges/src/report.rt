@@ -8,7 +8,7 @@ use cqlp_tcp_connections::{ConnectionTotals, End};
 use std::alloc::{Allocator, Global};
 
 /// How the connection of a request without a response ended.
-#[derive(Clone, Copy, Debug, PartialEq, Eq)]
+#[derive(Clone, Copy)]
 pub enum ConnectionEnd {
     /// By RST, in one direction at least.
     Reset,

@@ -6,7 +6,7 @@ ghost use Rattle.cqlp_capture_exchanges.specs.Forms.{attribute_heading, heading_
 use crate::naming::Naming;
 
 /// What the requests of a summary are counted by.
-#[derive(Clone, Copy, Debug, PartialEq, Eq)]
+#[derive(Clone, Copy)]
 pub enum SummaryBy {
     /// Their statements.
     Statement(Naming),
@@ -15,7 +15,7 @@ pub enum SummaryBy {
 }
 
 /// An attribute of a request beside its statement.
-#[derive(Clone, Copy, Debug, PartialEq, Eq)]
+#[derive(Clone, Copy)]
 pub enum Attribute {
     /// The client's address, at whichever port.
     Client,

@@ -9,7 +9,7 @@ use cqlp_observer::{Kept, Message, Paired};
 use std::alloc::Allocator;
 
 /// What was reported of requests and responses, whether it was shown or not. A number stays at 2^64 - 1 once it is there.
-#[derive(Clone, Copy, Debug, PartialEq, Eq)]
+#[derive(Clone, Copy)]
 pub struct ExchangeSums {
     /// Requests with their responses.
     pub exchanges: u64,

@@ -12,7 +12,7 @@ use crate::cqlp_type::TypeTable;
 use crate::kit_std::alloc::Allocator;
 
 /// The lines of one direction of a connection.
-#[derive(Clone, Copy, Debug, PartialEq, Eq)]
+#[derive(Clone, Copy)]
 pub(crate) struct Lines {
     pub(crate) place: LinePlace,
     /// How many frames were not read, as there was no room for their decoders.

@@ -6,7 +6,7 @@ use crate::cqlp_grammar::SinkFault;
 use crate::cqlp_text::{Pen, TextWriter};
 
 /// How many frames were not read.
-#[derive(Clone, Copy, Debug, PartialEq, Eq)]
+#[derive(Clone, Copy)]
 pub(crate) struct EventsWords {
     pub(crate) unread: u64,
 }

@@ -1,10 +1,10 @@
 // Written by dist/erase from crates/cqlp_capture_exchanges/src/attribute.rt.
-//! Attributes of requests as text.
+//! What requests are counted under in a summary, other than the texts of their statements.
 
 use crate::cqlp_capture_exchanges::connection::Connection;
 use crate::cqlp_capture_exchanges::end::{put_end, put_ip};
 use crate::cqlp_capture_exchanges::filter::is_error;
-use crate::cqlp_capture_exchanges::lines::put_name;
+use crate::cqlp_capture_exchanges::lines::{put_id, put_name};
 use crate::cqlp_capture_exchanges::outcome::Outcome;
 use crate::cqlp_capture_exchanges::reply::{Reply, error_name};
 use crate::cqlp_capture_exchanges::summary_by::Attribute;
@@ -30,6 +30,33 @@ pub(crate) fn append_attribute<W: Target, A: Allocator>(
     let passed_on = writer.flush();
     let _ = writer.into_target();
     passed_on
+}
+
+/// Appends the opcode of a request and the id of its statement, as the request's line has it. Takes no memory.
+pub(crate) fn append_id<W: Target>(
+    opcode: Opcode,
+    id: &[u8],
+    is_whole: bool,
+    target: &mut W,
+) -> Result<(), SinkFault> {
+    let mut writer = TextWriter::over(target);
+    let Ok(()) = put_id_name(&mut writer, opcode, id, is_whole) else {
+        let _ = writer.into_target();
+        return Err(SinkFault);
+    };
+    let passed_on = writer.flush();
+    let _ = writer.into_target();
+    passed_on
+}
+
+fn put_id_name<P: Pen>(
+    writer: &mut TextWriter<P>,
+    opcode: Opcode,
+    id: &[u8],
+    is_whole: bool,
+) -> Result<(), SinkFault> {
+    writer.put_str(opcode_name(opcode))?;
+    put_id(writer, id, is_whole)
 }
 
 fn put_attribute<P: Pen, A: Allocator>(

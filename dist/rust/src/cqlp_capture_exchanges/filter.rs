@@ -15,7 +15,7 @@ use crate::kit_std::alloc::Allocator;
 use crate::kit_host::net::IpAddr;
 
 /// Ends of connections: with an address, at the port with this number alone if there is one.
-#[derive(Clone, Copy, Debug, PartialEq, Eq)]
+#[derive(Clone, Copy)]
 pub struct EndFilter {
     pub address: IpAddr,
     pub port: Option<u16>,
@@ -28,8 +28,17 @@ impl EndFilter {
     }
 }
 
+/// A time, with which the times of packets are compared.
+#[derive(Clone, Copy)]
+pub enum Moment {
+    /// So many nanoseconds after the capture's first packet.
+    After(u64),
+    /// So many nanoseconds after 1970-01-01 00:00:00 UTC.
+    At(u64),
+}
+
 /// Which of the exchanges are shown: those that all of these ask for.
-#[derive(Clone, Copy, Debug, PartialEq, Eq)]
+#[derive(Clone, Copy)]
 pub struct ExchangeFilter {
     /// Only exchanges whose reply's last byte came at least so many nanoseconds after the request's first.
     pub slow: Option<u64>,
@@ -41,10 +50,10 @@ pub struct ExchangeFilter {
     pub client: Option<EndFilter>,
     /// Only what is reported of connections with such a node.
     pub node: Option<EndFilter>,
-    /// Only what began at least so many nanoseconds after the first packet.
-    pub since: Option<u64>,
-    /// Only what began at most so many nanoseconds after the first packet.
-    pub until: Option<u64>,
+    /// Only what began at this time or later.
+    pub since: Option<Moment>,
+    /// Only what began at this time or earlier.
+    pub until: Option<Moment>,
     /// Only requests whose statement has this text, as far as it is known.
     pub statement: Option<StatementPart>,
     /// Only what is reported of the connection with this number.
@@ -78,13 +87,13 @@ impl ExchangeFilter {
             && is_slow(self.slow, report)
             && (!self.errors || is_trouble(report))
             && is_asking(self.opcode, report)
-            && self.is_within(time_between(first, begun(report)))
+            && self.is_within(first, begun(report))
             && is_saying(&self.statement, known, report)
     }
 
-    /// Whether this is a time that is asked for.
-    fn is_within(&self, time: Option<Span>) -> bool {
-        is_since(self.since, time) && is_until(self.until, time)
+    /// Whether this is a time that is asked for, of a capture whose first packet came at that one.
+    fn is_within(&self, first: Option<u64>, time: Option<u64>) -> bool {
+        is_since(self.since, first, time) && is_until(self.until, first, time)
     }
 
     /// Whether the ends of a connection are those that are asked for.
@@ -228,16 +237,18 @@ fn begun_in<A: Allocator>(exchange: &Paired<Kept<A>>) -> Option<u64> {
     }
 }
 
-fn is_since(asked: Option<u64>, time: Option<Span>) -> bool {
+fn is_since(asked: Option<Moment>, first: Option<u64>, time: Option<u64>) -> bool {
     match asked {
-        Some(least) => is_at_least(least, time),
+        Some(Moment::After(least)) => is_at_least(least, time_between(first, time)),
+        Some(Moment::At(least)) => is_at_least(least, time_between(Some(0), time)),
         None => true,
     }
 }
 
-fn is_until(asked: Option<u64>, time: Option<Span>) -> bool {
+fn is_until(asked: Option<Moment>, first: Option<u64>, time: Option<u64>) -> bool {
     match asked {
-        Some(most) => is_at_most(most, time),
+        Some(Moment::After(most)) => is_at_most(most, time_between(first, time)),
+        Some(Moment::At(most)) => is_at_most(most, time_between(Some(0), time)),
         None => true,
     }
 }

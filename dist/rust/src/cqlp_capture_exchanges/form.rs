@@ -4,7 +4,7 @@
 use crate::cqlp_capture_exchanges::summary_by::SummaryBy;
 
 /// How exchanges are written.
-#[derive(Clone, Copy, Debug, PartialEq, Eq)]
+#[derive(Clone, Copy)]
 pub enum ExchangeForm {
     /// A line for each, as soon as the last byte of the response is there.
     Lines,

@@ -354,7 +354,11 @@ fn put_text<P: Pen>(writer: &mut TextWriter<P>, text: &str, is_whole: bool) -> R
     writer.put_str(more(is_whole))
 }
 
-fn put_id<P: Pen>(writer: &mut TextWriter<P>, id: &[u8], is_whole: bool) -> Result<(), SinkFault> {
+pub(crate) fn put_id<P: Pen>(
+    writer: &mut TextWriter<P>,
+    id: &[u8],
+    is_whole: bool,
+) -> Result<(), SinkFault> {
     writer.put(b" ")?;
     writer.put_hex(id)?;
     writer.put_str(more(is_whole))

@@ -9,7 +9,7 @@ use crate::cqlp_observer::Missed;
 use crate::cqlp_text::{Pen, TextWriter};
 
 /// What a capture did not have of its connections, or was given up, and the limits. A number stays at 2^64 - 1 once it is there.
-#[derive(Clone, Copy, Debug, PartialEq, Eq)]
+#[derive(Clone, Copy)]
 pub(crate) struct Losses {
     streams: StreamsLimits,
     exchanges: ExchangeLimits,

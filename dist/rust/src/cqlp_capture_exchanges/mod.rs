@@ -33,7 +33,7 @@ mod table;
 
 pub(crate) use capturing::{write_exchanges};
 pub use exchanges::Exchanges;
-pub use filter::{EndFilter, ExchangeFilter};
+pub use filter::{EndFilter, ExchangeFilter, Moment};
 pub use form::ExchangeForm;
 pub use naming::Naming;
 pub use part::StatementPart;

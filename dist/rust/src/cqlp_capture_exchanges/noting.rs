@@ -1,7 +1,7 @@
 // Written by dist/erase from crates/cqlp_capture_exchanges/src/noting.rt.
 //! Requests with what came of them, counted in a summary.
 
-use crate::cqlp_capture_exchanges::attribute::append_attribute;
+use crate::cqlp_capture_exchanges::attribute::{append_attribute, append_id};
 use crate::cqlp_capture_exchanges::batch_name::{MOST, batch_name};
 use crate::cqlp_capture_exchanges::connection::Connection;
 use crate::cqlp_capture_exchanges::filter::is_failure;
@@ -150,7 +150,7 @@ fn note_request<A: Allocator, B: Allocator>(
         Some(Statement::Text { text, is_whole }) => {
             note_text(summary, naming, text, is_whole, request, outcome);
         }
-        Some(Statement::Id { .. }) => note_opcode(summary, naming, request, outcome),
+        Some(Statement::Id { id, is_whole }) => note_id(summary, id, is_whole, request, outcome),
         None => note_opcode(summary, naming, request, outcome),
     }
 }
@@ -184,7 +184,27 @@ fn has_all(text: &str, is_whole: bool) -> bool {
     is_whole && text.len() <= MOST
 }
 
-/// Counts a request under its opcode, where the text of its statement is not known.
+/// Counts a request under its opcode and the id of its statement, whose text is not known.
+fn note_id<A: Allocator, B: Allocator>(
+    summary: &mut Summary<A>,
+    id: &[u8],
+    is_whole: bool,
+    request: &Message<Kept<B>>,
+    outcome: &Outcome,
+)
+{
+    let mut label = Label::new();
+    let appended = append_id(request.frame.header.opcode, id, is_whole, &mut label);
+    note_as(
+        summary,
+        Naming::Literal,
+        label.as_slice(),
+        appended.is_ok(),
+        outcome,
+    );
+}
+
+/// Counts a request under its opcode, where its statement is not known.
 fn note_opcode<A: Allocator, B: Allocator>(
     summary: &mut Summary<A>,
     naming: Naming,

@@ -4,7 +4,7 @@
 use crate::cqlp_capture_exchanges::reply::Reply;
 
 /// What came of a request.
-#[derive(Clone, Copy, Debug)]
+#[derive(Clone, Copy)]
 pub(crate) struct Outcome {
     pub(crate) is_answered: bool,
     /// What the response is, if there is one.

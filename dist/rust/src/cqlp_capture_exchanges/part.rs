@@ -20,7 +20,7 @@ fn is_front_at(part: &[u8], text: &[u8], at: usize) -> bool {
 const ROOM: usize = 256;
 
 /// A text that statements are to have, as far as its first 256 bytes: those of no statement are longer.
-#[derive(Clone, Copy, Debug, PartialEq, Eq)]
+#[derive(Clone, Copy)]
 pub struct StatementPart {
     /// These bytes, and after them zeros.
     bytes: [u8; ROOM],

@@ -4,7 +4,7 @@
 use crate::cqlp_observer::WatchRoom;
 
 /// How much of all connections together waits at most. Where there is no room for more, what is left out is counted.
-#[derive(Clone, Copy, Debug, PartialEq, Eq)]
+#[derive(Clone, Copy)]
 pub struct ExchangeLimits {
     /// Messages that wait for the other of their exchange.
     pub open: usize,

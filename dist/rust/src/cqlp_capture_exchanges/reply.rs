@@ -6,7 +6,7 @@ use crate::cqlp_capture_exchanges::statement::{Statement, has, string_in};
 use crate::cqlp_note::{Header, Opcode};
 
 /// What a response is.
-#[derive(Clone, Copy, Debug, PartialEq, Eq)]
+#[derive(Clone, Copy)]
 pub(crate) enum Reply {
     /// A RESULT of this kind. Section 4.2.5 of `native_protocol_v4.spec`.
     Result(u32),

@@ -6,7 +6,7 @@ use crate::cqlp_tcp_connections::{ConnectionTotals, End};
 use crate::kit_std::alloc::{Allocator, Global};
 
 /// How the connection of a request without a response ended.
-#[derive(Clone, Copy, Debug, PartialEq, Eq)]
+#[derive(Clone, Copy)]
 pub enum ConnectionEnd {
     /// By RST, in one direction at least.
     Reset,

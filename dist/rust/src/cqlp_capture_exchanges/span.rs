@@ -6,14 +6,14 @@ use crate::cqlp_observer::{Extent, Frame};
 use crate::cqlp_text::{Pen, TextWriter};
 
 /// How far a time lies behind another one, or before it.
-#[derive(Clone, Copy, Debug, PartialEq, Eq)]
+#[derive(Clone, Copy)]
 pub(crate) struct Span {
     pub(crate) is_before: bool,
     pub(crate) nanoseconds: u64,
 }
 
 /// What times are written in.
-#[derive(Clone, Copy, Debug, PartialEq, Eq)]
+#[derive(Clone, Copy)]
 pub(crate) enum Unit {
     Second,
     Millisecond,

@@ -4,7 +4,7 @@
 use crate::cqlp_note::{Header, Opcode};
 
 /// What a request asks to be done, as far as it is there.
-#[derive(Clone, Copy, Debug, PartialEq, Eq)]
+#[derive(Clone, Copy)]
 pub enum Statement<'a> {
     /// The text of a QUERY or a PREPARE, or of the first statement of a BATCH. Sections 4.1.4, 4.1.5 and 4.1.7 of `native_protocol_v4.spec`.
     Text { text: &'a str, is_whole: bool },

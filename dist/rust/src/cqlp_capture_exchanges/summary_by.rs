@@ -4,7 +4,7 @@
 use crate::cqlp_capture_exchanges::naming::Naming;
 
 /// What the requests of a summary are counted by.
-#[derive(Clone, Copy, Debug, PartialEq, Eq)]
+#[derive(Clone, Copy)]
 pub enum SummaryBy {
     /// Their statements.
     Statement(Naming),
@@ -13,7 +13,7 @@ pub enum SummaryBy {
 }
 
 /// An attribute of a request beside its statement.
-#[derive(Clone, Copy, Debug, PartialEq, Eq)]
+#[derive(Clone, Copy)]
 pub enum Attribute {
     /// The client's address, at whichever port.
     Client,

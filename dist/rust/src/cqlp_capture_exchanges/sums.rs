@@ -7,7 +7,7 @@ use crate::cqlp_observer::{Kept, Message, Paired};
 use crate::kit_std::alloc::Allocator;
 
 /// What was reported of requests and responses, whether it was shown or not. A number stays at 2^64 - 1 once it is there.
-#[derive(Clone, Copy, Debug, PartialEq, Eq)]
+#[derive(Clone, Copy)]
 pub struct ExchangeSums {
     /// Requests with their responses.
     pub exchanges: u64,
