@@ -8,7 +8,7 @@ use crate::block::{Block, may_have_length};
 use crate::event::{CaptureEnd, CaptureEvent, CaptureStep, EventOutline};
 use crate::file::ByteOrder;
 use crate::gathered::{BytesPlace, GatheredBytes};
-use crate::interfaces::InterfaceTable;
+use crate::interfaces::{InterfaceTable, TableChange};
 use crate::limits::CaptureLimits;
 use crate::pcap::read_packet;
 use crate::pcapng::{read_enhanced, room_after};
@@ -120,7 +120,7 @@ impl<A: Allocator> CaptureReader<A> {
     ghost use Rattle.cqlp_capture.specs.Lending.{LeavesAnswer};
     ghost use Rattle.cqlp_capture.specs.Gathering.{LieThere, bytes_at};
     ghost use Rattle.cqlp_capture.specs.Reading.{event_with};
-    ghost use Rattle.cqlp_capture.specs.Progress.{Advances, AdvancesFrom, EndsAs, TakesStep, Uses, ending, event_of};
+    ghost use Rattle.cqlp_capture.specs.Progress.{Advances, AdvancesFrom, EndsAs, TakesStep, Uses, ending, event_of, new_state};
 
     /// The next event that the input leads to. The caller hands in the bytes after those that were used, and goes on
     /// until more are wanted. A refusal is final: each later call says it again.
@@ -161,6 +161,19 @@ impl<A: Allocator> CaptureReader<A> {
             let at = self.place.began();
             CaptureEnd::Cut { at, bytes }
         }
+    }
+
+    /// Begins anew, at the start of another file. The memory is kept.
+    pub fn restart(&mut self)
+        ensures { self.new ≡ new_state self.old.limits }
+    {
+        self.interfaces.apply(TableChange::Forget);
+        self.gathered.clear();
+        self.place = Place {
+            offset: 0,
+            stage: Stage::Magic,
+        };
+        self.refusal = None;
     }
 
     /// The bytes of a packet that the reader has memory for: the limit on a packet, for as long as it lives.

@@ -9,8 +9,10 @@ ghost use Rattle.cqlp_capture_events.specs.Capturing.{WritesEvents};
 
 use crate::events::Events;
 use crate::words::EventsWords;
-use cqlp_capture_streams::{StreamsFault, StreamsLimits, conclude_capture, read_capture};
-use cqlp_note::{Source, Target};
+use cqlp_capture_streams::{
+    CaptureInput, StreamsFault, StreamsLimits, conclude_capture, read_capture,
+};
+use cqlp_note::Target;
 use std::alloc::Global;
 
 /// Reads the frames on the connections of a capture with nodes that listen on these ports, within these limits: on the connection with this
@@ -18,7 +20,7 @@ use std::alloc::Global;
 /// and the two outputs.
 ///
 /// After a fault nothing more is asked of what failed.
-pub fn write_events<R: Source, O: Target, E: Target>(
+pub fn write_events<R: CaptureInput, O: Target, E: Target>(
     alloc: Global,
     limits: StreamsLimits,
     ports: &[u16],

@@ -19,11 +19,11 @@ use crate::losses::{Losses, losses_of, put_losses};
 use crate::pool::ExchangeLimits;
 use crate::sums::ExchangeSums;
 use cqlp_capture_streams::{
-    BlockWriter, Buffering, CaptureRead, LastWords, StreamsFault, StreamsLimits, conclude_capture,
-    finish_blocks, read_capture,
+    BlockWriter, Buffering, CaptureInput, CaptureRead, LastWords, StreamsFault, StreamsLimits,
+    conclude_capture, finish_blocks, read_capture,
 };
 use cqlp_grammar::SinkFault;
-use cqlp_note::{Source, Target};
+use cqlp_note::Target;
 use cqlp_observer::Missed;
 use cqlp_text::{Pen, TextWriter};
 use std::alloc::Global;
@@ -33,7 +33,7 @@ use std::alloc::Global;
 ///
 /// Lines are written at once, or in blocks; without memory for a block also at once. The last block is written before the last line. After a fault
 /// nothing more is asked of what failed.
-pub fn write_exchanges<R: Source, O: Target, E: Target>(
+pub fn write_exchanges<R: CaptureInput, O: Target, E: Target>(
     alloc: Global,
     streams: StreamsLimits,
     limits: ExchangeLimits,
@@ -80,7 +80,7 @@ impl Counts {
 }
 
 /// Reads the capture, and writes the lines, at once or in blocks. Answers what it was, what was reported, and the output.
-fn listen_by<R: Source, O: Target>(
+fn listen_by<R: CaptureInput, O: Target>(
     alloc: Global,
     streams: StreamsLimits,
     limits: ExchangeLimits,
@@ -109,7 +109,7 @@ fn listen_by<R: Source, O: Target>(
 }
 
 /// Reads the capture, and writes the lines in blocks, of which none waits yet.
-fn listen_in_blocks<R: Source, O: Target>(
+fn listen_in_blocks<R: CaptureInput, O: Target>(
     alloc: Global,
     streams: StreamsLimits,
     limits: ExchangeLimits,
@@ -132,7 +132,7 @@ fn listen_in_blocks<R: Source, O: Target>(
 }
 
 /// Reads the capture, and writes the lines. Answers what it was, what was reported, and the output.
-fn listen<R: Source, O: Target>(
+fn listen<R: CaptureInput, O: Target>(
     alloc: Global,
     streams: StreamsLimits,
     limits: ExchangeLimits,

@@ -8,8 +8,10 @@ ghost use Rattle.cqlp_capture_streams.specs.Captures.{AreCounted, ReadsMade, rea
 ghost use Rattle.cqlp_capture_rows.specs.Capturing.{WritesRows};
 
 use crate::rows::Rows;
-use cqlp_capture_streams::{LastWord, StreamsFault, StreamsLimits, conclude_capture, read_capture};
-use cqlp_note::{Source, Target};
+use cqlp_capture_streams::{
+    CaptureInput, LastWord, StreamsFault, StreamsLimits, conclude_capture, read_capture,
+};
+use cqlp_note::Target;
 use std::alloc::Global;
 
 /// Reads the frames on one connection of a capture with nodes that listen on these ports, within these limits: on the one with this number;
@@ -17,7 +19,7 @@ use std::alloc::Global;
 /// the exit status and the two outputs.
 ///
 /// After a fault nothing more is asked of what failed.
-pub fn write_rows<R: Source, O: Target, E: Target>(
+pub fn write_rows<R: CaptureInput, O: Target, E: Target>(
     alloc: Global,
     limits: StreamsLimits,
     ports: &[u16],

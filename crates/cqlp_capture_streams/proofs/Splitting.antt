@@ -1,5 +1,5 @@
 -- What a listener has got of an input after some reads.
-use Rattle.std.proofs.Common.{◌≡◌, ◌∙◌, ℕ, ◌+◌, ◌*◌, ◌<◌, ◌≤◌, true, false, List, [], ◌++◌, length, take, Option, Some, None, Result, Ok, Err, IfOk, OnOk, refl, sym, ap, subst, inl, inr, append_assoc, append-nil, arith}
+use Rattle.std.proofs.Common.{◌≡◌, ◌∙◌, ℕ, ◌+◌, ◌*◌, ◌<◌, ◌≤◌, true, false, List, [], ◌++◌, length, take, Option, Some, None, Result, Ok, Err, IfOk, IsSome, OnOk, refl, sym, ap, subst, inl, inr, append_assoc, append-nil, arith}
 use Rattle.std.specs.Io.KnownBytes.{Consumes, IsAtEnd, Keeps}
 use Rattle.cqlp_note.specs.Reader.{More, says}
 use Rattle.cqlp_note.specs.Streams.{CountsUp, counted_up}
@@ -74,6 +74,19 @@ keeps_some (Some xs) (Some ys) rest is k = let same : xs ≡ rest = (let x = is 
 at_end : (o : Option CaptureRefusal) (d : CaptureState) (read s : List ℕ) (es : List (ℕ × Event)) → o ≡ None → IsAtEndBy o d read s es → (s ≡ read) × (says (step d.limits d.spot) 0 d.pending ≡ More)
 at_end None d read s es none a = a
 at_end (Some r) d read s es none a = absurd (let x = none in cc)
+
+-- what is left is known
+pub is_known : {o : Option (List ℕ)} {xs : List ℕ} → o ≡ Some xs → IsSome o
+is_known is = subst IsSome (sym is) refl
+
+-- counts that do not change
+pub counts_kept : (n old mid new : ℕ) → new ≡ mid → CountsUp n old mid → CountsUp n old new
+counts_kept n old mid new same counted = subst (CountsUp n old) (sym same) counted
+
+-- the same reader and the same splitter, of which a call left both as they were
+pub as_drained : {V : Type 0} (after : V → ConnectionEvent → V) (faulted : V → ConnectionEvent → StreamsFault → V → Type 0) (l : CaptureLimits) (t : SplitState) (before : V) (s piece : List ℕ) (r : Result Drained StreamsFault) (d d' : CaptureState) (u u' : SplitState) (v : V) → d' ≡ d → u' ≡ u → DrainsTo after faulted l t before s piece r d u v → DrainsTo after faulted l t before s piece r d' u' v
+as_drained after faulted l t before s piece r d d' u u' v same_reader same_splitter a =
+    subst (λ (z : SplitState). DrainsTo after faulted l t before s piece r d' z v) (sym same_splitter) (subst (λ (z : CaptureState). DrainsTo after faulted l t before s piece r z u v) (sym same_reader) a)
 
 -- all was read
 pub all_read : (r : Result CaptureEnd StreamsFault) (rest : List ℕ) → rest ≡ [] → IsAll r rest

@@ -9,14 +9,14 @@ use Rattle.cqlp_capture.specs.declared.limits.CaptureLimits.{CaptureLimits}
 use Rattle.cqlp_capture.specs.declared.refusal.CaptureRefusal.{CaptureRefusal}
 use Rattle.cqlp_capture.specs.Reading.{Event, Spot, Hears, Refused, Says, start, step}
 use Rattle.cqlp_capture.specs.Places.{began, is_between}
-use Rattle.cqlp_capture.specs.Progress.{After, CaptureState, is_empty}
+use Rattle.cqlp_capture.specs.Progress.{After, CaptureState, ending, is_empty, new_state}
 use Rattle.cqlp_capture_streams.specs.declared.fault.StreamsFault.{StreamsFault}
 use Rattle.cqlp_capture_streams.specs.declared.fault.StreamsFault.TheVariants as fault
 use Rattle.cqlp_capture_streams.specs.declared.running.Drained.{Drained}
 use Rattle.cqlp_capture_streams.specs.declared.running.Drained.TheVariants as drained
 use Rattle.cqlp_capture_streams.specs.ConnectionEvents.{ConnectionEvent}
 use Rattle.cqlp_capture_streams.specs.Listening.{AreEndless, FailsAtLast, after_all}
-use Rattle.cqlp_capture_streams.specs.Packets.{SplitState, Finishes, ReportsEvent, ReportsEvents}
+use Rattle.cqlp_capture_streams.specs.Packets.{SplitState, Finishes, ReportsEvent, ReportsEvents, with_next_file}
 
 -- ---- what the bytes of a file say
 
@@ -128,6 +128,19 @@ pub record ReadsOn (l : CaptureLimits) (read : List ℕ) : Type 0 where
   pub spot : Spot
   pub rest : List ℕ
   pub hears : HearsAll l earlier events spot rest
+
+-- ---- the next file
+
+-- a file that ends within what began last
+abbrev pub is_cut : CaptureEnd → Bool
+is_cut (end.Whole n) = false
+is_cut (end.Cut at n) = true
+is_cut (end.Refused r) = false
+
+-- The next file begins, and is counted, and so is the one before it where that was cut; or there is none, and nothing changes.
+abbrev pub BeginsNext : (is_begun : Bool) → CaptureState → SplitState → CaptureState → SplitState → Type 0
+BeginsNext true d s e t = (e ≡ new_state d.limits) × (t ≡ with_next_file (is_cut (ending d)) s)
+BeginsNext false d s e t = (e ≡ d) × (t ≡ s)
 
 -- ---- what a listener has got of it
 

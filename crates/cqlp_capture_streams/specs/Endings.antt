@@ -11,6 +11,7 @@ use Rattle.cqlp_capture_streams.specs.declared.capturing.CaptureRead.{CaptureRea
 use Rattle.cqlp_capture_streams.specs.declared.fault.StreamsFault.{StreamsFault}
 use Rattle.cqlp_capture_streams.specs.declared.fault.StreamsFault.TheVariants as fault
 use Rattle.cqlp_capture_streams.specs.declared.files.FileFault.TheVariants as file
+use Rattle.cqlp_capture_streams.specs.declared.packets.PacketCounts.{PacketCounts}
 use Rattle.cqlp_capture_streams.specs.declared.packets.WithoutCounts.{WithoutCounts}
 use Rattle.cqlp_capture_streams.specs.declared.recorder.Sums.{Sums}
 use Rattle.cqlp_capture_streams.specs.declared.skipped.SkippedCounts.{SkippedCounts}
@@ -31,11 +32,11 @@ has_skipped k =
     || nat_lt 0 k.too_many_interfaces || nat_lt 0 k.unknown_interface || nat_lt 0 k.unread_interface || nat_lt 0 k.time_too_large
     || nat_lt 0 k.packet_beyond_block || nat_lt 0 k.packet_too_long
 
--- Some of it was not read, or packets came later than the window, or bytes that came early were given up, or connections had to make room for
+-- Some of it was not read, or a file before the last was cut, or packets came later than the window, or bytes that came early were given up, or connections had to make room for
 -- others, or all segments went to other ports.
 abbrev pub has_losses : CaptureRead → Bool
 has_losses r =
-    has_skipped r.packets.skipped || nat_lt 0 r.order.late || nat_lt 0 r.connections.given_up || nat_lt 0 r.connections.crowded
+    has_skipped r.packets.skipped || nat_lt 0 r.packets.cut_files || nat_lt 0 r.order.late || nat_lt 0 r.connections.given_up || nat_lt 0 r.connections.crowded
     || ((r.connections.connections == 0) && nat_lt 0 r.connections.foreign)
 
 -- With a note, or losses, not all was seen, and the status is not that of a whole one.
@@ -100,6 +101,10 @@ skip_words k =
     ∷ count_words (codes "UnreadInterface") k.unread_interface ∷ count_words (codes "TimeTooLarge") k.time_too_large
     ∷ count_words (codes "PacketBeyondBlock") k.packet_beyond_block ∷ count_words (codes "PacketTooLong") k.packet_too_long ∷ [])
 
+-- how many files came after the first, and how many before the last were cut
+abbrev pub file_words : PacketCounts → List ℕ
+file_words c = joined (count_words (codes "MoreFiles") c.more_files ∷ count_words (codes "CutFiles") c.cut_files ∷ [])
+
 abbrev pub head_words : CaptureRead → List ℕ
 head_words r =
     joined (named_words (codes "packets") r.packets.packets ∷ named_words (codes "segments") r.packets.segments
@@ -109,7 +114,8 @@ head_words r =
 abbrev pub read_line : (words : List ℕ) → CaptureRead → List ℕ
 read_line words r =
     joined (verdict r.end ∷ head_words r ∷ codes " " ∷ words ∷ order_words r.order ∷ count_words (codes "Snapped") r.packets.snapped
-    ∷ table_words r.connections ∷ reason_words r.packets.without ∷ skip_words r.packets.skipped ∷ codes "\n" ∷ [])
+    ∷ table_words r.connections ∷ reason_words r.packets.without ∷ skip_words r.packets.skipped ∷ file_words r.packets
+    ∷ codes "\n" ∷ [])
 
 -- ---- the line where no packet is of the ports
 

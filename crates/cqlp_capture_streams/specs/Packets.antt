@@ -64,7 +64,8 @@ none_skipped = record {
 }
 
 abbrev pub none_counted : PacketCounts
-none_counted = record { packets = 0; segments = 0; snapped = 0; without = none_without; skipped = none_skipped }
+none_counted =
+    record { packets = 0; segments = 0; snapped = 0; without = none_without; skipped = none_skipped; more_files = 0; cut_files = 0 }
 
 abbrev pub new_split : Table → Order → SplitState
 new_split t o = split_state t o 0 None 0 none_counted
@@ -77,6 +78,13 @@ with_segment is_snapped c = record c {
   packets = counted c.packets 1;
   segments = counted c.segments 1;
   snapped = if is_snapped then counted c.snapped 1 else c.snapped;
+}
+
+-- a further file, behind one that was cut or not
+abbrev pub with_file : (was_cut : Bool) → PacketCounts → PacketCounts
+with_file was_cut c = record c {
+  more_files = counted c.more_files 1;
+  cut_files = if was_cut then counted c.cut_files 1 else c.cut_files;
 }
 
 -- one more for this reason
@@ -111,6 +119,9 @@ with_skip skip.PacketTooLong k = record k { packet_too_long = counted k.packet_t
 
 abbrev pub with_skipped : SkipReason → PacketCounts → PacketCounts
 with_skipped why c = record c { skipped = with_skip why c.skipped }
+
+abbrev pub with_next_file : (was_cut : Bool) → SplitState → SplitState
+with_next_file was_cut s = record s { counts = with_file was_cut s.counts }
 
 -- ---- a packet
 

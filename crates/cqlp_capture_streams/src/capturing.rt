@@ -7,13 +7,13 @@ ghost use Rattle.cqlp_capture_streams.specs.Endings.{has_losses};
 ghost use Rattle.cqlp_capture_streams.specs.Streams.{ReadsCapture, read_of};
 
 use crate::fault::StreamsFault;
+use crate::input::CaptureInput;
 use crate::limits::StreamsLimits;
 use crate::listener::Listener;
 use crate::packets::PacketCounts;
 use crate::running::split;
 use crate::splitter::Splitter;
 use cqlp_capture::{CaptureEnd, CaptureLimits, CaptureReader};
-use cqlp_note::Source;
 use cqlp_packet_order::{OrderCounts, PacketOrder};
 use cqlp_tcp_connections::{ConnectionCounts, Connections};
 use std::alloc::{Allocator, Global};
@@ -36,12 +36,13 @@ pub struct CaptureRead {
 }
 
 impl CaptureRead {
-    /// Whether some of it was not read, or packets came later than the window, or bytes that came early were given up, or connections had
+    /// Whether some of it was not read, or a file before the last was cut, or packets came later than the window, or bytes that came early were given up, or connections had
     /// to make room for others, or all segments went to other ports.
     pub fn has_losses(&self) -> bool
         ensures { result ≡ has_losses self.now }
     {
         self.packets.skipped.has_some()
+            || self.packets.cut_files > 0
             || self.order.late > 0
             || self.connections.given_up > 0
             || self.connections.crowded > 0
@@ -49,13 +50,13 @@ impl CaptureRead {
     }
 }
 
-/// Has a listener take all events of the connections in a capture of nodes that listen on these ports, out of at most 2^32 reads. There are
+/// Has a listener take all events of the connections in a capture, in one file or in several, of nodes that listen on these ports, out of at most 2^32 reads. There are
 /// at most as many connections at one time, with as many bytes that came early, as the limits say. Packets are put in the order of their
 /// times within the window that the limits say. No read is made before the listener has taken all events of the bytes read so far, but for
 /// packets that wait. At the end of the file, or where it is refused, those leave, and then all connections.
 ///
 /// After a fault nothing more is read, and the listener gets nothing more.
-pub fn read_capture<R: Source, L: Listener>(
+pub fn read_capture<R: CaptureInput, L: Listener>(
     alloc: Global,
     limits: StreamsLimits,
     ports: &[u16],

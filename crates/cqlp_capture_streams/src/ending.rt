@@ -15,7 +15,7 @@ use crate::files::FileFault;
 use crate::last_words::LastWords;
 use crate::lines::file_line;
 use crate::skipped::put_skipped;
-use crate::summary::{put_count, put_head, put_order, put_reasons, put_table};
+use crate::summary::{put_count, put_files, put_head, put_order, put_reasons, put_table};
 use cqlp_capture::{CaptureEnd, CaptureReason, CaptureRefusal};
 use cqlp_grammar::SinkFault;
 use cqlp_note::Target;
@@ -155,6 +155,7 @@ fn put_read<P: Pen, W: LastWords>(
     put_table(writer, &read.connections)?;
     put_reasons(writer, &read.packets.without)?;
     put_skipped(writer, &read.packets.skipped)?;
+    put_files(writer, &read.packets)?;
     writer.put(b"\n")
 }
 

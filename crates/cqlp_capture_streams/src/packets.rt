@@ -32,6 +32,10 @@ pub struct PacketCounts {
     pub snapped: u64,
     pub without: WithoutCounts,
     pub skipped: SkippedCounts,
+    /// Files that were read after the first.
+    pub more_files: u64,
+    /// Files that ended within a packet or a block, before the last.
+    pub cut_files: u64,
 }
 
 impl WithoutCounts {
@@ -60,7 +64,7 @@ impl WithoutCounts {
 }
 
 impl PacketCounts {
-    ghost use Rattle.cqlp_capture_streams.specs.Packets.{with_segment, with_skipped, without_segment};
+    ghost use Rattle.cqlp_capture_streams.specs.Packets.{with_file, with_segment, with_skipped, without_segment};
 
     pub(crate) const NONE: PacketCounts = PacketCounts {
         packets: 0,
@@ -80,6 +84,8 @@ impl PacketCounts {
             bad_tcp_length: 0,
         },
         skipped: SkippedCounts::NONE,
+        more_files: 0,
+        cut_files: 0,
     };
 
     /// Counts a packet with a segment, of a connection and cut or not.
@@ -100,6 +106,16 @@ impl PacketCounts {
     {
         self.packets = self.packets.saturating_add(1);
         self.without.count(why);
+    }
+
+    /// Counts a further file, and the one before it where that was cut.
+    pub(crate) fn count_file(&mut self, was_cut: bool)
+        ensures { self.new ≡ with_file was_cut self.old }
+    {
+        self.more_files = self.more_files.saturating_add(1);
+        if was_cut {
+            self.cut_files = self.cut_files.saturating_add(1);
+        }
     }
 
     /// Counts a block, an interface or a packet that cannot be read.

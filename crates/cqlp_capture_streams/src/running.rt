@@ -1,15 +1,16 @@
 //! A reader's capture, split into the streams of its connections.
 
-ghost use Rattle.std.specs.Prelude.{◌≡◌, IfOk, OnOk, List, ℕ, None, Some, length};
+ghost use Rattle.std.specs.Prelude.{◌≡◌, IfOk, IsSome, Ok, OnOk, List, ℕ, None, Some, false, length};
 ghost use Rattle.cqlp_capture.specs.Progress.{ending, new_state};
 ghost use Rattle.cqlp_capture_streams.specs.Packets.{SplitState};
-ghost use Rattle.cqlp_capture_streams.specs.Captures.{AreCounted, DrainsTo, EndsTo, Has, IsAtEndOf, ReadsMade, SplitsTo, most_read, read_counts};
+ghost use Rattle.cqlp_capture_streams.specs.Captures.{AreCounted, BeginsNext, DrainsTo, EndsTo, Has, IsAtEndOf, ReadsMade, SplitsTo, is_cut, most_read, read_counts};
 
 use crate::fault::StreamsFault;
+use crate::input::CaptureInput;
 use crate::listener::Listener;
 use crate::splitter::Splitter;
 use cqlp_capture::{CaptureEnd, CaptureReader, CaptureStep};
-use cqlp_note::{IoFault, Source};
+use cqlp_note::IoFault;
 use std::alloc::Allocator;
 
 /// How the events of a piece end.
@@ -19,10 +20,10 @@ enum Drained {
     Refused,
 }
 
-/// Reports all events of a reader's capture, from at most `turns` reads into the buffer, none of which is tried again. No read is made
+/// Reports all events of a reader's capture, of one file or of several, from at most `turns` reads into the buffer, none of which is tried again. No read is made
 /// before the listener has got all events of the bytes read so far. At the end of the file, or where it is refused, all connections
 /// leave.
-pub(crate) fn split<R: Source, L: Listener, A: Allocator, B: Allocator + Clone>(
+pub(crate) fn split<R: CaptureInput, L: Listener, A: Allocator, B: Allocator + Clone>(
     reader: &mut CaptureReader<A>,
     splitter: &mut Splitter<B>,
     input: &mut R,
@@ -48,12 +49,45 @@ pub(crate) fn split<R: Source, L: Listener, A: Allocator, B: Allocator + Clone>(
             Drained::Refused => return end_all(reader, splitter, listener),
             Drained::More => {
                 if count == 0 {
+                    if begin_next(reader, splitter, input)? {
+                        continue;
+                    }
                     return end_all(reader, splitter, listener);
                 }
             }
         }
     }
     Err(StreamsFault::TooManyTurns)
+}
+
+/// Begins the next file, if there is one; a file that ends within a packet or a block is counted as cut.
+fn begin_next<R: CaptureInput, A: Allocator, B: Allocator>(
+    reader: &mut CaptureReader<A>,
+    splitter: &mut Splitter<B>,
+    input: &mut R,
+) -> Result<bool, StreamsFault>
+    ensures one { IsSome (R.left input.old) → (result ≡ Ok false) × (input.new ≡ input.old) × (reader.new ≡ reader.old) × (splitter.new ≡ splitter.old) }
+    ensures begun { IfOk result (λ is_begun. BeginsNext is_begun reader.old splitter.old reader.new splitter.new) }
+    ensures reads { R.reads input.new ≡ R.reads input.old }
+    ensures failures { R.failures input.new ≡ R.failures input.old }
+    ensures asked { R.asked input.new ≡ R.asked input.old }
+{
+    match input.next_file() {
+        Ok(false) => Ok(false),
+        Ok(true) => {
+            splitter.count_file(is_cut(&reader.finish()));
+            reader.restart();
+            Ok(true)
+        }
+        Err(IoFault) => Err(StreamsFault::Read),
+    }
+}
+
+/// Whether a file ends within what began last.
+fn is_cut(end: &CaptureEnd) -> bool
+    ensures { result ≡ is_cut end.now }
+{
+    matches!(end, CaptureEnd::Cut { .. })
 }
 
 /// Reports what the events of a piece hold.

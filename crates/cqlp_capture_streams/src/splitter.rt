@@ -40,7 +40,7 @@ impl<A: Allocator> Model for Splitter<A> {
 
 impl<A: Allocator> Splitter<A> {
     ghost use Rattle.cqlp_tcp_connections.specs.Ports.{busiest};
-    ghost use Rattle.cqlp_capture_streams.specs.Packets.{is_snapped, new_split};
+    ghost use Rattle.cqlp_capture_streams.specs.Packets.{is_snapped, new_split, with_next_file};
 
     /// At the start of a capture, whose connections have this table, and whose packets this window.
     pub fn new(connections: Connections<A>, order: PacketOrder<A>) -> Self
@@ -82,6 +82,13 @@ impl<A: Allocator> Splitter<A> {
         ensures { result ≡ busiest self.now.table.foreign }
     {
         self.connections.busiest()
+    }
+
+    /// Counts a further file, and the one before it where that was cut.
+    pub fn count_file(&mut self, was_cut: bool)
+        ensures { self.new ≡ with_next_file was_cut self.old }
+    {
+        self.counts.count_file(was_cut);
     }
 
     fn begin_packet(&mut self, head: &PacketHead)

@@ -2,10 +2,10 @@
 
 ghost use Rattle.std.specs.Prelude.{◌≡◌};
 ghost use Rattle.cqlp_text.specs.Written.{Writes};
-ghost use Rattle.cqlp_capture_streams.specs.Endings.{count_words, head_words, named_words, order_words, reason_words, table_words};
+ghost use Rattle.cqlp_capture_streams.specs.Endings.{count_words, file_words, head_words, named_words, order_words, reason_words, table_words};
 
 use crate::capturing::CaptureRead;
-use crate::packets::WithoutCounts;
+use crate::packets::{PacketCounts, WithoutCounts};
 use cqlp_grammar::SinkFault;
 use cqlp_packet_order::OrderCounts;
 use cqlp_tcp_connections::ConnectionCounts;
@@ -33,6 +33,17 @@ pub(crate) fn put_order<P: Pen>(
     put_count(writer, "Reordered", counts.reordered)?;
     put_count(writer, "Late", counts.late)?;
     put_count(writer, "OutOfOrder", counts.out_of_order)
+}
+
+/// Takes how many files came after the first, and how many before the last were cut.
+pub(crate) fn put_files<P: Pen>(
+    writer: &mut TextWriter<P>,
+    counts: &PacketCounts,
+) -> Result<(), SinkFault>
+    ensures { Writes writer.old (file_words counts.now) result writer.new }
+{
+    put_count(writer, "MoreFiles", counts.more_files)?;
+    put_count(writer, "CutFiles", counts.cut_files)
 }
 
 /// Takes what connections did not take.

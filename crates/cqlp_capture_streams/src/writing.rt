@@ -10,16 +10,17 @@ ghost use Rattle.cqlp_capture_streams.specs.Streams.{WritesStreams, WritesStream
 use crate::capturing::read_capture;
 use crate::ending::conclude_capture;
 use crate::files::StreamFiles;
+use crate::input::CaptureInput;
 use crate::limits::StreamsLimits;
 use crate::recorder::Recorder;
-use cqlp_note::{Source, Target};
+use cqlp_note::Target;
 use std::alloc::Global;
 
 /// Splits a capture into the streams of its connections with nodes that listen on these ports. Writes a line for each gap and for each
 /// connection to `out`, and what the capture was, or the fault line, to `err`. Answers the exit status, the files and the two outputs.
 ///
 /// After a fault nothing more is asked of what failed.
-pub fn write_streams<R: Source, F: StreamFiles, O: Target, E: Target>(
+pub fn write_streams<R: CaptureInput, F: StreamFiles, O: Target, E: Target>(
     alloc: Global,
     limits: StreamsLimits,
     ports: &[u16],

@@ -17,6 +17,7 @@ ghost use Rattle.cqlp_text.specs.Outputs.{written};
 ghost use Rattle.cqlp_render.specs.Streams.{streams};
 ghost use Rattle.cqlp_text.specs.declared.ending.Ending.{Ending};
 
+use crate::capture_files::CaptureFiles;
 use crate::conversing::converse;
 use crate::folder::{Folder, is_folder};
 use crate::limits::{exchange_limits_of, streams_limits_of};
@@ -28,7 +29,7 @@ use cqlp_capture_exchanges::{
     write_exchanges,
 };
 use cqlp_capture_rows::write_rows;
-use cqlp_capture_streams::{Buffering, StreamsLimits, write_streams};
+use cqlp_capture_streams::{Buffering, CaptureInput, StreamsLimits, write_streams};
 use cqlp_decode::SinkFault;
 use cqlp_note::{OfStd, Source, Target};
 use cqlp_options::{
@@ -41,7 +42,8 @@ use cqlp_row_text::TablePlace;
 use cqlp_text::exit_status::{BAD_COMMAND_LINE, DONE, FAULT};
 use cqlp_text::{Ending, PagePlace, cannot_open_line, put_text};
 use std::alloc::Allocator;
-use std::fs::{File, OpenFile};
+use std::fs::{self, File, Metadata, OpenFile};
+use std::io;
 use std::net::{Net, TcpListener, TcpStream};
 use std::rt::Files;
 
@@ -52,7 +54,7 @@ const NANOSECONDS_PER_MILLISECOND: u64 = 1_000_000;
 /// outputs.
 ///
 /// What is wrong with a command line is written to `err`, and help that was asked for to `out`.
-pub fn command<R, I: Source, O: Target, E: Target>(
+pub fn command<R, I: CaptureInput, O: Target, E: Target>(
     rt: &R,
     words: &[&str],
     input: &mut I,
@@ -71,7 +73,7 @@ where
 
 /// What `command` does; and while a capture of more than 64 MB is read from a file, `notes` is given a line after each further 64 MB. The
 /// program gives standard error for it, where that is a terminal.
-pub fn command_with_notes<R, I: Source, O: Target, E: Target, N: Target + Drop>(
+pub fn command_with_notes<R, I: CaptureInput, O: Target, E: Target, N: Target + Drop>(
     rt: &R,
     words: &[&str],
     input: &mut I,
@@ -95,7 +97,7 @@ where
 
 /// Does what a command line asks for: a task with a stream or a capture, which is standard input or a file, or a conversation; or writes why it
 /// starts none. Answers the exit status, and the two outputs.
-pub fn execute<R, I: Source, O: Target, E: Target, N: Target + Drop>(
+pub fn execute<R, I: CaptureInput, O: Target, E: Target, N: Target + Drop>(
     rt: &R,
     line: Result<CommandLine<'_>, NoTask>,
     input: &mut I,
@@ -152,9 +154,9 @@ fn stream<R: Files + AllocGlobal, I: Source, O: Target, E: Target>(
     }
 }
 
-/// Opens a capture, and does the task with it. Of a regular file lines are written in blocks; of standard input and any other file, as a pipe, at
-/// once. Where a file is long, `notes` gets how much of it was read.
-fn capture<R: Files + AllocGlobal, I: Source, O: Target, E: Target, N: Target + Drop>(
+/// Opens the files of a capture, and does the task with them. Of a regular file lines are written in blocks; of standard input and any other file, as a pipe, at
+/// once. Where files are long, `notes` gets how much of them was read.
+fn capture<R: Files + AllocGlobal, I: CaptureInput, O: Target, E: Target, N: Target + Drop>(
     rt: &R,
     options: CaptureOptions<'_>,
     input: &mut I,
@@ -182,14 +184,31 @@ fn capture<R: Files + AllocGlobal, I: Source, O: Target, E: Target, N: Target + 
         let (status, err) = cannot_open(options.file, err);
         return (status, out, err);
     };
+    let more = options.more.as_slice();
+    if let Some(path) = missing_file(rt, more) {
+        let (status, err) = cannot_open(path, err);
+        return (status, out, err);
+    }
     let buffering = buffering_for(&file);
-    match (notes.take(), long_length(&file)) {
+    let length = long_length(rt, &file, more);
+    let mut files = CaptureFiles::new(rt, file, more);
+    match (notes.take(), length) {
         (Some(notes), Some(length)) => {
-            let mut input = Progress::new(OfStd::new(file), length, notes);
+            let mut input = Progress::new(files, length, notes);
             read_capture(rt, &options, buffering, &mut input, out, err)
         }
-        _ => { read_capture(rt, &options, buffering, &mut OfStd::new(file), out, err) }
+        _ => read_capture(rt, &options, buffering, &mut files, out, err),
     }
+}
+
+/// The first of these files that cannot be opened.
+fn missing_file<'a, R: Files>(rt: &R, paths: &[&'a str]) -> Option<&'a str> {
+    for path in paths {
+        let Ok(_) = File::open(rt, *path) else {
+            return Some(*path);
+        };
+    }
+    None
 }
 
 /// The folder that a task with a capture asks for, if there is none with this path.
@@ -213,18 +232,27 @@ fn buffering_for<F: OpenFile>(file: &F) -> Buffering {
     }
 }
 
-/// How long a file is, if it is a regular one and longer than 64 MB.
-fn long_length<F: OpenFile>(file: &F) -> Option<u64>
+/// How long these files are together, if they are regular ones and longer than 64 MB.
+fn long_length<R: Files, F: OpenFile>(rt: &R, first: &F, more: &[&str]) -> Option<u64>
     ensures { IfSome result (λ length. 64_000_000 < length) }
 {
-    match file.metadata() {
-        Ok(metadata) if metadata.is_file() && metadata.len() > MARK => Some(metadata.len()),
+    let mut length = regular_length(first.metadata())?;
+    for path in more {
+        length = length.saturating_add(regular_length(fs::metadata(rt, *path))?);
+    }
+    if length > MARK { Some(length) } else { None }
+}
+
+/// How long a file is, if it is a regular one.
+fn regular_length(metadata: io::Result<Metadata>) -> Option<u64> {
+    match metadata {
+        Ok(metadata) if metadata.is_file() => Some(metadata.len()),
         _ => None,
     }
 }
 
 /// Does the task with a capture, whose folder is there if it asks for one.
-fn read_capture<R: Files + AllocGlobal, I: Source, O: Target, E: Target>(
+fn read_capture<R: Files + AllocGlobal, I: CaptureInput, O: Target, E: Target>(
     rt: &R,
     options: &CaptureOptions<'_>,
     buffering: Buffering,
@@ -269,7 +297,7 @@ fn read_capture<R: Files + AllocGlobal, I: Source, O: Target, E: Target>(
 }
 
 /// Splits a capture into the streams of its connections, whose files are made in the folder.
-fn split_to_folder<R: Files + AllocGlobal, I: Source, O: Target, E: Target>(
+fn split_to_folder<R: Files + AllocGlobal, I: CaptureInput, O: Target, E: Target>(
     rt: &R,
     folder: &str,
     limits: StreamsLimits,

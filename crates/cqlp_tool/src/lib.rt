@@ -1,6 +1,7 @@
 //! What the program cqlp does; and the progress that it reports while it reads a long file.
 #![tactic(auto)]
 
+mod capture_files;
 mod command_line;
 mod connection;
 mod conversing;

@@ -6,6 +6,7 @@ ghost use Rattle.cqlp_note.specs.Streams.{counted, counted_up};
 ghost use Rattle.cqlp_tool.specs.Marks.{Shows, read_after};
 
 use crate::marks::{marks, put_marks};
+use cqlp_capture_streams::CaptureInput;
 use cqlp_note::{IoFault, Source, Target};
 
 /// A reader of a file of a known length, which gives what the reader gives, and writes to `notes` how much of the file was read: a line after each
@@ -89,5 +90,11 @@ impl<S: Source, T: Target> Source for Progress<S, T> {
             }
             Err(IoFault) => Err(IoFault),
         }
+    }
+}
+
+impl<S: CaptureInput, T: Target> CaptureInput for Progress<S, T> {
+    fn next_file(&mut self) -> Result<bool, IoFault> {
+        self.source.next_file()
     }
 }

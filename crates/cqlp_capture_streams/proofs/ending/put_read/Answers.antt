@@ -75,6 +75,19 @@ returns-in_err-put_skipped g c =
     let s8 = part_taken _ s7 refl refl c.in_ok-put_reasons.ensures in
     part_stops _ c.from_residual-in_err-put_skipped.result c.from_residual-in_err-put_skipped.ensures.0 s8 refl refl c.in_err-put_skipped.ensures
 
+pub returns-in_err-put_files : goal.returns-in_err-put_files
+returns-in_err-put_files g c =
+    let s1 = part_taken _ (progress_starts _ _) refl refl c.in_ok-put_verdict.ensures in
+    let s2 = part_taken _ s1 refl refl c.in_ok-put_head.ensures in
+    let s3 = part_taken _ s2 refl refl c.in_ok-put.ensures in
+    let s4 = part_taken _ s3 refl refl c.in_ok-put_words.ensures in
+    let s5 = part_taken _ s4 refl refl c.in_ok-put_order.ensures in
+    let s6 = part_taken _ s5 refl refl c.in_ok-put_count.ensures in
+    let s7 = part_taken _ s6 refl refl c.in_ok-put_table.ensures in
+    let s8 = part_taken _ s7 refl refl c.in_ok-put_reasons.ensures in
+    let s9 = part_taken _ s8 refl refl c.in_ok-put_skipped.ensures in
+    part_stops _ c.from_residual-in_err-put_files.result c.from_residual-in_err-put_files.ensures.0 s9 refl refl c.in_err-put_files.ensures
+
 pub returns : goal.returns
 returns g c =
     let s1 = part_taken _ (progress_starts _ _) refl refl c.in_ok-put_verdict.ensures in
@@ -86,4 +99,5 @@ returns g c =
     let s7 = part_taken _ s6 refl refl c.in_ok-put_table.ensures in
     let s8 = part_taken _ s7 refl refl c.in_ok-put_reasons.ensures in
     let s9 = part_taken _ s8 refl refl c.in_ok-put_skipped.ensures in
-    part_last _ _ c.put-2.result s9 refl refl c.put-2.ensures
+    let s10 = part_taken _ s9 refl refl c.in_ok-put_files.ensures in
+    part_last _ _ c.put-2.result s10 refl refl c.put-2.ensures

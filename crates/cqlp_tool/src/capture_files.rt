@@ -1,0 +1,53 @@
+//! The files of a capture, read one after the other.
+
+use cqlp_capture_streams::CaptureInput;
+use cqlp_note::{IoFault, OfStd, Source};
+use std::fs::File;
+use std::rt::Files;
+
+/// The files of a capture, of which one is open. Those that were captured after it are opened as their turn comes.
+#[derive(Drop)]
+pub(crate) struct CaptureFiles<'a, R: Files> {
+    rt: &'a R,
+    input: OfStd<R::File>,
+    more: &'a [&'a str],
+}
+
+impl<'a, R: Files> CaptureFiles<'a, R> {
+    /// The first file, and the paths of the others, in order.
+    pub fn new(rt: &'a R, first: R::File, more: &'a [&'a str]) -> Self {
+        CaptureFiles {
+            rt,
+            input: OfStd::new(first),
+            more,
+        }
+    }
+}
+
+impl<R: Files> Source for CaptureFiles<'_, R> {
+    ghost failures = { λ files. files.input.failures };
+
+    ghost reads = { λ files. files.input.reads };
+
+    ghost asked = { λ files. files.input.asked };
+
+    fn read(&mut self, buffer: &mut [u8]) -> Result<usize, IoFault> {
+        self.input.read(buffer)
+    }
+}
+
+impl<R: Files> CaptureInput for CaptureFiles<'_, R> {
+    fn next_file(&mut self) -> Result<bool, IoFault> {
+        let Some((path, more)) = self.more.split_first() else {
+            return Ok(false);
+        };
+        self.more = more;
+        match File::open(self.rt, *path) {
+            Ok(file) => {
+                self.input.inner = file;
+                Ok(true)
+            }
+            Err(_) => Err(IoFault),
+        }
+    }
+}
