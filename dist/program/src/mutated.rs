@@ -7,7 +7,7 @@ use crate::cqlp_capture_events::write_events;
 use crate::cqlp_capture_rows::write_rows;
 use crate::cqlp_capture_exchanges::{Attribute, ExchangeFilter, ExchangeForm, ExchangeLimits, Naming, SummaryBy, write_exchanges};
 use crate::cqlp_note::{IoFault, OfStd, Source};
-use crate::cqlp_capture_streams::{Buffering, FileFault, StreamFile, StreamFiles, StreamsLimits, write_streams};
+use crate::cqlp_capture_streams::{Buffering, CaptureInput, FileFault, StreamFile, StreamFiles, StreamsLimits, write_streams};
 use crate::heap::measured;
 use crate::kit_std::alloc::Global;
 use std::collections::HashMap;
@@ -47,6 +47,8 @@ impl Source for Pieces<'_> {
         Ok(count)
     }
 }
+
+impl CaptureInput for Pieces<'_> {}
 
 /// Files that lie in one row of bytes with room for all, so that they take no memory while a capture is read. Of each file there is a sum
 /// of its bytes in their order, and how many they are.

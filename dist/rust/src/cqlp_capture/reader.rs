@@ -6,7 +6,7 @@ use crate::cqlp_capture::block::{Block, may_have_length};
 use crate::cqlp_capture::event::{CaptureEnd, CaptureEvent, CaptureStep, EventOutline};
 use crate::cqlp_capture::file::ByteOrder;
 use crate::cqlp_capture::gathered::{BytesPlace, GatheredBytes};
-use crate::cqlp_capture::interfaces::InterfaceTable;
+use crate::cqlp_capture::interfaces::{InterfaceTable, TableChange};
 use crate::cqlp_capture::limits::CaptureLimits;
 use crate::cqlp_capture::pcap::read_packet;
 use crate::cqlp_capture::pcapng::{read_enhanced, room_after};
@@ -130,6 +130,17 @@ impl<A: Allocator> CaptureReader<A> {
             let at = self.place.began();
             CaptureEnd::Cut { at, bytes }
         }
+    }
+
+    /// Begins anew, at the start of another file. The memory is kept.
+    pub fn restart(&mut self) {
+        self.interfaces.apply(TableChange::Forget);
+        self.gathered.clear();
+        self.place = Place {
+            offset: 0,
+            stage: Stage::Magic,
+        };
+        self.refusal = None;
     }
 
     /// The bytes of a packet that the reader has memory for: the limit on a packet, for as long as it lives.

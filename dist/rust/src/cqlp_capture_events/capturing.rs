@@ -4,8 +4,10 @@
 use crate::kit_host::prelude::{AllocGlobal};
 use crate::cqlp_capture_events::events::Events;
 use crate::cqlp_capture_events::words::EventsWords;
-use crate::cqlp_capture_streams::{StreamsFault, StreamsLimits, conclude_capture, read_capture};
-use crate::cqlp_note::{Source, Target};
+use crate::cqlp_capture_streams::{
+    CaptureInput, StreamsFault, StreamsLimits, conclude_capture, read_capture,
+};
+use crate::cqlp_note::Target;
 use crate::kit_std::alloc::Global;
 
 /// Reads the frames on the connections of a capture with nodes that listen on these ports, within these limits: on the connection with this
@@ -13,7 +15,7 @@ use crate::kit_std::alloc::Global;
 /// and the two outputs.
 ///
 /// After a fault nothing more is asked of what failed.
-pub(crate) fn write_events<R: Source, O: Target, E: Target>(
+pub(crate) fn write_events<R: CaptureInput, O: Target, E: Target>(
     alloc: Global,
     limits: StreamsLimits,
     ports: &[u16],

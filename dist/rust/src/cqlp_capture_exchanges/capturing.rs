@@ -9,11 +9,11 @@ use crate::cqlp_capture_exchanges::losses::{Losses, losses_of, put_losses};
 use crate::cqlp_capture_exchanges::pool::ExchangeLimits;
 use crate::cqlp_capture_exchanges::sums::ExchangeSums;
 use crate::cqlp_capture_streams::{
-    BlockWriter, Buffering, CaptureRead, LastWords, StreamsFault, StreamsLimits, conclude_capture,
-    finish_blocks, read_capture,
+    BlockWriter, Buffering, CaptureInput, CaptureRead, LastWords, StreamsFault, StreamsLimits,
+    conclude_capture, finish_blocks, read_capture,
 };
 use crate::cqlp_grammar::SinkFault;
-use crate::cqlp_note::{Source, Target};
+use crate::cqlp_note::Target;
 use crate::cqlp_observer::Missed;
 use crate::cqlp_text::{Pen, TextWriter};
 use crate::kit_std::alloc::Global;
@@ -23,7 +23,7 @@ use crate::kit_std::alloc::Global;
 ///
 /// Lines are written at once, or in blocks; without memory for a block also at once. The last block is written before the last line. After a fault
 /// nothing more is asked of what failed.
-pub(crate) fn write_exchanges<R: Source, O: Target, E: Target>(
+pub(crate) fn write_exchanges<R: CaptureInput, O: Target, E: Target>(
     alloc: Global,
     streams: StreamsLimits,
     limits: ExchangeLimits,
@@ -60,7 +60,7 @@ impl Counts {
 }
 
 /// Reads the capture, and writes the lines, at once or in blocks. Answers what it was, what was reported, and the output.
-fn listen_by<R: Source, O: Target>(
+fn listen_by<R: CaptureInput, O: Target>(
     alloc: Global,
     streams: StreamsLimits,
     limits: ExchangeLimits,
@@ -83,7 +83,7 @@ fn listen_by<R: Source, O: Target>(
 }
 
 /// Reads the capture, and writes the lines in blocks, of which none waits yet.
-fn listen_in_blocks<R: Source, O: Target>(
+fn listen_in_blocks<R: CaptureInput, O: Target>(
     alloc: Global,
     streams: StreamsLimits,
     limits: ExchangeLimits,
@@ -99,7 +99,7 @@ fn listen_in_blocks<R: Source, O: Target>(
 }
 
 /// Reads the capture, and writes the lines. Answers what it was, what was reported, and the output.
-fn listen<R: Source, O: Target>(
+fn listen<R: CaptureInput, O: Target>(
     alloc: Global,
     streams: StreamsLimits,
     limits: ExchangeLimits,

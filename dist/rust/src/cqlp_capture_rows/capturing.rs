@@ -3,8 +3,10 @@
 
 use crate::kit_host::prelude::{AllocGlobal};
 use crate::cqlp_capture_rows::rows::Rows;
-use crate::cqlp_capture_streams::{LastWord, StreamsFault, StreamsLimits, conclude_capture, read_capture};
-use crate::cqlp_note::{Source, Target};
+use crate::cqlp_capture_streams::{
+    CaptureInput, LastWord, StreamsFault, StreamsLimits, conclude_capture, read_capture,
+};
+use crate::cqlp_note::Target;
 use crate::kit_std::alloc::Global;
 
 /// Reads the frames on one connection of a capture with nodes that listen on these ports, within these limits: on the one with this number;
@@ -12,7 +14,7 @@ use crate::kit_std::alloc::Global;
 /// the exit status and the two outputs.
 ///
 /// After a fault nothing more is asked of what failed.
-pub(crate) fn write_rows<R: Source, O: Target, E: Target>(
+pub(crate) fn write_rows<R: CaptureInput, O: Target, E: Target>(
     alloc: Global,
     limits: StreamsLimits,
     ports: &[u16],

@@ -3,13 +3,13 @@
 
 use crate::kit_host::prelude::{AllocGlobal, vec};
 use crate::cqlp_capture_streams::fault::StreamsFault;
+use crate::cqlp_capture_streams::input::CaptureInput;
 use crate::cqlp_capture_streams::limits::StreamsLimits;
 use crate::cqlp_capture_streams::listener::Listener;
 use crate::cqlp_capture_streams::packets::PacketCounts;
 use crate::cqlp_capture_streams::running::split;
 use crate::cqlp_capture_streams::splitter::Splitter;
 use crate::cqlp_capture::{CaptureEnd, CaptureLimits, CaptureReader};
-use crate::cqlp_note::Source;
 use crate::cqlp_packet_order::{OrderCounts, PacketOrder};
 use crate::cqlp_tcp_connections::{ConnectionCounts, Connections};
 use crate::kit_std::alloc::{Allocator, Global};
@@ -32,10 +32,11 @@ pub struct CaptureRead {
 }
 
 impl CaptureRead {
-    /// Whether some of it was not read, or packets came later than the window, or bytes that came early were given up, or connections had
+    /// Whether some of it was not read, or a file before the last was cut, or packets came later than the window, or bytes that came early were given up, or connections had
     /// to make room for others, or all segments went to other ports.
     pub fn has_losses(&self) -> bool {
         self.packets.skipped.has_some()
+            || self.packets.cut_files > 0
             || self.order.late > 0
             || self.connections.given_up > 0
             || self.connections.crowded > 0
@@ -43,13 +44,13 @@ impl CaptureRead {
     }
 }
 
-/// Has a listener take all events of the connections in a capture of nodes that listen on these ports, out of at most 2^32 reads. There are
+/// Has a listener take all events of the connections in a capture, in one file or in several, of nodes that listen on these ports, out of at most 2^32 reads. There are
 /// at most as many connections at one time, with as many bytes that came early, as the limits say. Packets are put in the order of their
 /// times within the window that the limits say. No read is made before the listener has taken all events of the bytes read so far, but for
 /// packets that wait. At the end of the file, or where it is refused, those leave, and then all connections.
 ///
 /// After a fault nothing more is read, and the listener gets nothing more.
-pub(crate) fn read_capture<R: Source, L: Listener>(
+pub(crate) fn read_capture<R: CaptureInput, L: Listener>(
     alloc: Global,
     limits: StreamsLimits,
     ports: &[u16],

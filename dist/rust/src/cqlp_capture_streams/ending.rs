@@ -8,7 +8,7 @@ use crate::cqlp_capture_streams::files::FileFault;
 use crate::cqlp_capture_streams::last_words::LastWords;
 use crate::cqlp_capture_streams::lines::file_line;
 use crate::cqlp_capture_streams::skipped::put_skipped;
-use crate::cqlp_capture_streams::summary::{put_count, put_head, put_order, put_reasons, put_table};
+use crate::cqlp_capture_streams::summary::{put_count, put_files, put_head, put_order, put_reasons, put_table};
 use crate::cqlp_capture::{CaptureEnd, CaptureReason, CaptureRefusal};
 use crate::cqlp_grammar::SinkFault;
 use crate::cqlp_note::Target;
@@ -120,6 +120,7 @@ fn put_read<P: Pen, W: LastWords>(
     put_table(writer, &read.connections)?;
     put_reasons(writer, &read.packets.without)?;
     put_skipped(writer, &read.packets.skipped)?;
+    put_files(writer, &read.packets)?;
     writer.put(b"\n")
 }
 

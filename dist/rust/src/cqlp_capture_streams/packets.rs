@@ -31,6 +31,10 @@ pub struct PacketCounts {
     pub snapped: u64,
     pub without: WithoutCounts,
     pub skipped: SkippedCounts,
+    /// Files that were read after the first.
+    pub more_files: u64,
+    /// Files that ended within a packet or a block, before the last.
+    pub cut_files: u64,
 }
 
 impl WithoutCounts {
@@ -73,6 +77,8 @@ impl PacketCounts {
             bad_tcp_length: 0,
         },
         skipped: SkippedCounts::NONE,
+        more_files: 0,
+        cut_files: 0,
     };
 
     /// Counts a packet with a segment, of a connection and cut or not.
@@ -89,6 +95,14 @@ impl PacketCounts {
     pub(crate) fn count_without(&mut self, why: NoSegment) {
         self.packets = self.packets.saturating_add(1);
         self.without.count(why);
+    }
+
+    /// Counts a further file, and the one before it where that was cut.
+    pub(crate) fn count_file(&mut self, was_cut: bool) {
+        self.more_files = self.more_files.saturating_add(1);
+        if was_cut {
+            self.cut_files = self.cut_files.saturating_add(1);
+        }
     }
 
     /// Counts a block, an interface or a packet that cannot be read.

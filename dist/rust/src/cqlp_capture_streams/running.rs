@@ -3,10 +3,11 @@
 
 use crate::kit_host::prelude::{Clone};
 use crate::cqlp_capture_streams::fault::StreamsFault;
+use crate::cqlp_capture_streams::input::CaptureInput;
 use crate::cqlp_capture_streams::listener::Listener;
 use crate::cqlp_capture_streams::splitter::Splitter;
 use crate::cqlp_capture::{CaptureEnd, CaptureReader, CaptureStep};
-use crate::cqlp_note::{IoFault, Source};
+use crate::cqlp_note::IoFault;
 use crate::kit_std::alloc::Allocator;
 
 /// How the events of a piece end.
@@ -16,10 +17,10 @@ enum Drained {
     Refused,
 }
 
-/// Reports all events of a reader's capture, from at most `turns` reads into the buffer, none of which is tried again. No read is made
+/// Reports all events of a reader's capture, of one file or of several, from at most `turns` reads into the buffer, none of which is tried again. No read is made
 /// before the listener has got all events of the bytes read so far. At the end of the file, or where it is refused, all connections
 /// leave.
-pub(crate) fn split<R: Source, L: Listener, A: Allocator, B: Allocator + Clone>(
+pub(crate) fn split<R: CaptureInput, L: Listener, A: Allocator, B: Allocator + Clone>(
     reader: &mut CaptureReader<A>,
     splitter: &mut Splitter<B>,
     input: &mut R,
@@ -37,12 +38,37 @@ pub(crate) fn split<R: Source, L: Listener, A: Allocator, B: Allocator + Clone>(
             Drained::Refused => return end_all(reader, splitter, listener),
             Drained::More => {
                 if count == 0 {
+                    if begin_next(reader, splitter, input)? {
+                        continue;
+                    }
                     return end_all(reader, splitter, listener);
                 }
             }
         }
     }
     Err(StreamsFault::TooManyTurns)
+}
+
+/// Begins the next file, if there is one; a file that ends within a packet or a block is counted as cut.
+fn begin_next<R: CaptureInput, A: Allocator, B: Allocator>(
+    reader: &mut CaptureReader<A>,
+    splitter: &mut Splitter<B>,
+    input: &mut R,
+) -> Result<bool, StreamsFault> {
+    match input.next_file() {
+        Ok(false) => Ok(false),
+        Ok(true) => {
+            splitter.count_file(is_cut(&reader.finish()));
+            reader.restart();
+            Ok(true)
+        }
+        Err(IoFault) => Err(StreamsFault::Read),
+    }
+}
+
+/// Whether a file ends within what began last.
+fn is_cut(end: &CaptureEnd) -> bool {
+    matches!(end, CaptureEnd::Cut { .. })
 }
 
 /// Reports what the events of a piece hold.

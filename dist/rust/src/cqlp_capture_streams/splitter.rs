@@ -57,6 +57,11 @@ impl<A: Allocator> Splitter<A> {
         self.connections.busiest()
     }
 
+    /// Counts a further file, and the one before it where that was cut.
+    pub fn count_file(&mut self, was_cut: bool) {
+        self.counts.count_file(was_cut);
+    }
+
     fn begin_packet(&mut self, head: &PacketHead) {
         self.link = head.link;
         self.time = head.time;

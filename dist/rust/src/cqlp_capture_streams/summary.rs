@@ -2,7 +2,7 @@
 //! What a capture was, in numbers.
 
 use crate::cqlp_capture_streams::capturing::CaptureRead;
-use crate::cqlp_capture_streams::packets::WithoutCounts;
+use crate::cqlp_capture_streams::packets::{PacketCounts, WithoutCounts};
 use crate::cqlp_grammar::SinkFault;
 use crate::cqlp_packet_order::OrderCounts;
 use crate::cqlp_tcp_connections::ConnectionCounts;
@@ -26,6 +26,15 @@ pub(crate) fn put_order<P: Pen>(
     put_count(writer, "Reordered", counts.reordered)?;
     put_count(writer, "Late", counts.late)?;
     put_count(writer, "OutOfOrder", counts.out_of_order)
+}
+
+/// Takes how many files came after the first, and how many before the last were cut.
+pub(crate) fn put_files<P: Pen>(
+    writer: &mut TextWriter<P>,
+    counts: &PacketCounts,
+) -> Result<(), SinkFault> {
+    put_count(writer, "MoreFiles", counts.more_files)?;
+    put_count(writer, "CutFiles", counts.cut_files)
 }
 
 /// Takes what connections did not take.

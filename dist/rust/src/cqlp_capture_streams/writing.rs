@@ -5,16 +5,17 @@ use crate::kit_host::prelude::{AllocGlobal};
 use crate::cqlp_capture_streams::capturing::read_capture;
 use crate::cqlp_capture_streams::ending::conclude_capture;
 use crate::cqlp_capture_streams::files::StreamFiles;
+use crate::cqlp_capture_streams::input::CaptureInput;
 use crate::cqlp_capture_streams::limits::StreamsLimits;
 use crate::cqlp_capture_streams::recorder::Recorder;
-use crate::cqlp_note::{Source, Target};
+use crate::cqlp_note::Target;
 use crate::kit_std::alloc::Global;
 
 /// Splits a capture into the streams of its connections with nodes that listen on these ports. Writes a line for each gap and for each
 /// connection to `out`, and what the capture was, or the fault line, to `err`. Answers the exit status, the files and the two outputs.
 ///
 /// After a fault nothing more is asked of what failed.
-pub(crate) fn write_streams<R: Source, F: StreamFiles, O: Target, E: Target>(
+pub(crate) fn write_streams<R: CaptureInput, F: StreamFiles, O: Target, E: Target>(
     alloc: Global,
     limits: StreamsLimits,
     ports: &[u16],

@@ -2,6 +2,7 @@
 //! The command line, from its words to the exit status.
 
 use crate::kit_host::prelude::{AllocGlobal, Vec};
+use crate::cqlp_tool::capture_files::CaptureFiles;
 use crate::cqlp_tool::conversing::converse;
 use crate::cqlp_tool::folder::{Folder, is_folder};
 use crate::cqlp_tool::limits::{exchange_limits_of, streams_limits_of};
@@ -13,7 +14,7 @@ use crate::cqlp_capture_exchanges::{
     write_exchanges,
 };
 use crate::cqlp_capture_rows::write_rows;
-use crate::cqlp_capture_streams::{Buffering, StreamsLimits, write_streams};
+use crate::cqlp_capture_streams::{Buffering, CaptureInput, StreamsLimits, write_streams};
 use crate::cqlp_decode::SinkFault;
 use crate::cqlp_note::{OfStd, Source, Target};
 use crate::cqlp_options::{
@@ -26,7 +27,8 @@ use crate::cqlp_row_text::TablePlace;
 use crate::cqlp_text::exit_status::{BAD_COMMAND_LINE, DONE, FAULT};
 use crate::cqlp_text::{Ending, PagePlace, cannot_open_line, put_text};
 use crate::kit_std::alloc::Allocator;
-use crate::kit_host::fs::{File, OpenFile};
+use crate::kit_host::fs::{File, Metadata, OpenFile};
+use std::io;
 use crate::kit_host::net::{Net, TcpListener, TcpStream};
 use crate::kit_host::rt::Files;
 
@@ -37,7 +39,7 @@ const NANOSECONDS_PER_MILLISECOND: u64 = 1_000_000;
 /// outputs.
 ///
 /// What is wrong with a command line is written to `err`, and help that was asked for to `out`.
-pub fn command<R, I: Source, O: Target, E: Target>(
+pub fn command<R, I: CaptureInput, O: Target, E: Target>(
     rt: &R,
     words: &[&str],
     input: &mut I,
@@ -53,7 +55,7 @@ where
 
 /// What `command` does; and while a capture of more than 64 MB is read from a file, `notes` is given a line after each further 64 MB. The
 /// program gives standard error for it, where that is a terminal.
-pub fn command_with_notes<R, I: Source, O: Target, E: Target, N: Target>(
+pub fn command_with_notes<R, I: CaptureInput, O: Target, E: Target, N: Target>(
     rt: &R,
     words: &[&str],
     input: &mut I,
@@ -73,7 +75,7 @@ where
 
 /// Does what a command line asks for: a task with a stream or a capture, which is standard input or a file, or a conversation; or writes why it
 /// starts none. Answers the exit status, and the two outputs.
-pub(crate) fn execute<R, I: Source, O: Target, E: Target, N: Target>(
+pub(crate) fn execute<R, I: CaptureInput, O: Target, E: Target, N: Target>(
     rt: &R,
     line: Result<CommandLine<'_>, NoTask>,
     input: &mut I,
@@ -113,9 +115,9 @@ fn stream<R: Files + AllocGlobal, I: Source, O: Target, E: Target>(
     }
 }
 
-/// Opens a capture, and does the task with it. Of a regular file lines are written in blocks; of standard input and any other file, as a pipe, at
-/// once. Where a file is long, `notes` gets how much of it was read.
-fn capture<R: Files + AllocGlobal, I: Source, O: Target, E: Target, N: Target>(
+/// Opens the files of a capture, and does the task with them. Of a regular file lines are written in blocks; of standard input and any other file, as a pipe, at
+/// once. Where files are long, `notes` gets how much of them was read.
+fn capture<R: Files + AllocGlobal, I: CaptureInput, O: Target, E: Target, N: Target>(
     rt: &R,
     options: CaptureOptions<'_>,
     input: &mut I,
@@ -134,14 +136,31 @@ fn capture<R: Files + AllocGlobal, I: Source, O: Target, E: Target, N: Target>(
         let (status, err) = cannot_open(options.file, err);
         return (status, out, err);
     };
+    let more = options.more.as_slice();
+    if let Some(path) = missing_file(rt, more) {
+        let (status, err) = cannot_open(path, err);
+        return (status, out, err);
+    }
     let buffering = buffering_for(&file);
-    match (notes.take(), long_length(&file)) {
+    let length = long_length(rt, &file, more);
+    let mut files = CaptureFiles::new(rt, file, more);
+    match (notes.take(), length) {
         (Some(notes), Some(length)) => {
-            let mut input = Progress::new(OfStd::new(file), length, notes);
+            let mut input = Progress::new(files, length, notes);
             read_capture(rt, &options, buffering, &mut input, out, err)
         }
-        _ => { read_capture(rt, &options, buffering, &mut OfStd::new(file), out, err) }
+        _ => read_capture(rt, &options, buffering, &mut files, out, err),
     }
+}
+
+/// The first of these files that cannot be opened.
+fn missing_file<'a, R: Files>(rt: &R, paths: &[&'a str]) -> Option<&'a str> {
+    for path in paths {
+        let Ok(_) = File::open(rt, *path) else {
+            return Some(*path);
+        };
+    }
+    None
 }
 
 /// The folder that a task with a capture asks for, if there is none with this path.
@@ -163,16 +182,25 @@ fn buffering_for<F: OpenFile>(file: &F) -> Buffering {
     }
 }
 
-/// How long a file is, if it is a regular one and longer than 64 MB.
-fn long_length<F: OpenFile>(file: &F) -> Option<u64> {
-    match file.metadata() {
-        Ok(metadata) if metadata.is_file() && metadata.len() > MARK => Some(metadata.len()),
+/// How long these files are together, if they are regular ones and longer than 64 MB.
+fn long_length<R: Files, F: OpenFile>(rt: &R, first: &F, more: &[&str]) -> Option<u64> {
+    let mut length = regular_length(first.metadata())?;
+    for path in more {
+        length = length.saturating_add(regular_length(fs::metadata(rt, *path))?);
+    }
+    if length > MARK { Some(length) } else { None }
+}
+
+/// How long a file is, if it is a regular one.
+fn regular_length(metadata: io::Result<Metadata>) -> Option<u64> {
+    match metadata {
+        Ok(metadata) if metadata.is_file() => Some(metadata.len()),
         _ => None,
     }
 }
 
 /// Does the task with a capture, whose folder is there if it asks for one.
-fn read_capture<R: Files + AllocGlobal, I: Source, O: Target, E: Target>(
+fn read_capture<R: Files + AllocGlobal, I: CaptureInput, O: Target, E: Target>(
     rt: &R,
     options: &CaptureOptions<'_>,
     buffering: Buffering,
@@ -210,7 +238,7 @@ fn read_capture<R: Files + AllocGlobal, I: Source, O: Target, E: Target>(
 }
 
 /// Splits a capture into the streams of its connections, whose files are made in the folder.
-fn split_to_folder<R: Files + AllocGlobal, I: Source, O: Target, E: Target>(
+fn split_to_folder<R: Files + AllocGlobal, I: CaptureInput, O: Target, E: Target>(
     rt: &R,
     folder: &str,
     limits: StreamsLimits,

@@ -1,6 +1,7 @@
 // Written by dist/erase from crates/cqlp_tool/src/lib.rt.
 //! What the program cqlp does; and the progress that it reports while it reads a long file.
 
+mod capture_files;
 mod command_line;
 mod connection;
 mod conversing;

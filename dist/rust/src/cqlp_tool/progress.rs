@@ -2,6 +2,7 @@
 //! A reader that reports how far it came.
 
 use crate::cqlp_tool::marks::{marks, put_marks};
+use crate::cqlp_capture_streams::CaptureInput;
 use crate::cqlp_note::{IoFault, Source, Target};
 
 /// A reader of a file of a known length, which gives what the reader gives, and writes to `notes` how much of the file was read: a line after each
@@ -54,5 +55,11 @@ impl<S: Source, T: Target> Source for Progress<S, T> {
             }
             Err(IoFault) => Err(IoFault),
         }
+    }
+}
+
+impl<S: CaptureInput, T: Target> CaptureInput for Progress<S, T> {
+    fn next_file(&mut self) -> Result<bool, IoFault> {
+        self.source.next_file()
     }
 }

@@ -1,0 +1,125 @@
+#!/usr/bin/env python3
+"""Captures in several files, as tcpdump's -G and -C write them: rotated.py CASE PROGRAM DATA ROOM prints what is wrong.
+
+The lines of the files have to be those of the one file that they were split from, wherever it is split; what the last line says is another verdict, since
+that is of the last file, and how many files came after the first."""
+import re
+import subprocess
+import sys
+from pathlib import Path
+
+PORTS = ['--port', '36401', '--port', '40971']
+HEADER, RECORD = 24, 16
+
+
+def packets(capture):
+    """The records of a pcap file, each with its header."""
+    order = 'little' if capture[:1] in (b'\xd4', b'\x4d') else 'big'
+    at, records = HEADER, []
+    while at < len(capture):
+        size = RECORD + int.from_bytes(capture[at + 8:at + 12], order)
+        records.append(capture[at:at + size])
+        at += size
+    return records
+
+
+def split(capture, sizes, folder):
+    """Files with so many packets each, and one with those that are left."""
+    folder.mkdir(exist_ok=True)
+    records, files, at = packets(capture), [], 0
+    for size in [*sizes, len(records)]:
+        files.append(folder / f'{len(files):03}.pcap')
+        files[-1].write_bytes(capture[:HEADER] + b''.join(records[at:at + size]))
+        at += size
+    return files
+
+
+def ran(program, files, *words):
+    done = subprocess.run([program, 'capture', *PORTS, *words, *files], stdin=subprocess.DEVNULL, capture_output=True)
+    return done.returncode, done.stdout.decode(), done.stderr.decode()
+
+
+def without_verdict(line):
+    """The last line without the bytes of its verdict and the number of files."""
+    return re.sub(r' MoreFiles \d+', '', re.sub(r'^whole \d+', 'whole', line))
+
+
+def compare(what, one, several, more):
+    if several[:2] != one[:2]:
+        print(f'{what}: {several[:2]}, of one file {one[:2]}')
+    if without_verdict(several[2]) != without_verdict(one[2]):
+        print(f'{what}: {several[2]!r}, of one file {one[2]!r}')
+    found = re.search(r' MoreFiles (\d+)', several[2])
+    if int(found[1] if found else 0) != more:
+        print(f'{what}: {several[2]!r}, and not {more} more files')
+
+
+def same_lines(program, data, room):
+    """Wherever a capture is split its lines are the same."""
+    for name in ('driver', 'driver-ns', 'driver-big-endian', 'driver-sll2', 'driver-lost', 'driver-snapped', 'driver-overlap'):
+        capture = (data / f'{name}.pcap').read_bytes()
+        count = len(packets(capture))
+        for sizes in ([count // 2], [1], [count - 1], [0, count // 3, 0, count // 3], [count], [1] * count):
+            files = split(capture, sizes, room / 'rotated')
+            for words in ([], ['--json'], ['--summary'], ['--events'], ['--rows', '--connection', '2']) if name == 'driver' else ([],):
+                order = ['--order', '1000']
+                compare(f'{name} {sizes} {words}', ran(program, [data / f'{name}.pcap'], *words, *order), ran(program, files, *words, *order), len(sizes))
+
+
+def other_forms(program, data, room):
+    """Each file has a form of its own."""
+    capture = (data / 'driver.pcap').read_bytes()
+    files = split(capture, [len(packets(capture)) // 2], room / 'rotated')
+    empty = split((data / 'driver-big-endian.pcap').read_bytes(), [0], room / 'empty')[0]
+    compare('a pcapng file after an empty one', ran(program, [data / 'driver.pcapng']), ran(program, [empty, data / 'driver.pcapng']), 1)
+    compare('an empty one in between', ran(program, [data / 'driver.pcap']), ran(program, [files[0], empty, files[1]]), 2)
+
+
+def cut_file(program, data, room):
+    """A file that ends within a packet is counted, and the next one is read from its begin."""
+    capture = (data / 'driver.pcap').read_bytes()
+    files = split(capture, [1], room / 'rotated')
+    first = files[0].read_bytes()
+    for cut in (HEADER + RECORD // 2, HEADER + RECORD, len(first) - 1, 10):
+        files[0].write_bytes(first[:cut])
+        alone, both = ran(program, [files[1]]), ran(program, files)
+        if (both[0], both[1].count('\n')) != (1, alone[1].count('\n')) or not both[2].endswith(' MoreFiles 1 CutFiles 1\n'):
+            print(f'cut at {cut}: {both}')
+    files[1].write_bytes(files[1].read_bytes()[:-1])
+    last = ran(program, files[1:])
+    if last[0] != 1 or not last[2].startswith('cut ') or 'CutFiles' in last[2]:
+        print(f'the last one cut: {last}')
+
+
+def missing_file(program, data, room):
+    """No line is written where a file cannot be opened."""
+    missing = room / 'none.pcap'
+    for files in ([data / 'driver.pcap', missing], [missing, data / 'driver.pcap'], [data / 'driver.pcap', data / 'driver.pcap', missing]):
+        said = ran(program, files)
+        if said != (3, '', f'cqlp: cannot open {missing}\n'):
+            print(said)
+
+
+def refused_file(program, data, room):
+    """A file that is no capture ends the reading, with what came before it."""
+    other = room / 'other'
+    other.write_bytes(bytes(100))
+    one, both = ran(program, [data / 'driver.pcap']), ran(program, [data / 'driver.pcap', other, data / 'driver.pcap'])
+    if both[:2] != (1, one[1]) or not both[2].startswith('refused 0 UnknownMagic ') or not both[2].endswith(' MoreFiles 1\n'):
+        print(both)
+
+
+def streams(program, data, room):
+    """The streams of connections go on from file to file."""
+    capture = (data / 'driver.pcap').read_bytes()
+    files, folder = split(capture, [1] * len(packets(capture)), room / 'rotated'), room / 'streams'
+    folder.mkdir()
+    said = ran(program, files, '--streams', str(folder))
+    for number in (1, 2):
+        for way in ('requests', 'responses'):
+            if (folder / f'{number}.{way}.bin').read_bytes() != (data / f'driver.{number - 1}.{way}.bin').read_bytes():
+                print(f'{number} {way}: {said}')
+
+
+if __name__ == '__main__':
+    globals()[sys.argv[1]](sys.argv[2], Path(sys.argv[3]), Path(sys.argv[4]))
