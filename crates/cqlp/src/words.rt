@@ -83,44 +83,86 @@ pub fn texts(alloc: Global, words: &[Argument]) -> Result<Vec<&str>, AllocError>
     Ok(texts)
 }
 
-/// Opens the stream's file in the place of standard input, where its name is no text, and puts `-` in its place among
-/// the texts. An error is the text of a name that cannot be opened.
-pub fn redirect<'a>(
-    alloc: Global,
-    words: &'a [Argument],
-    texts: &mut [&'a str],
-) -> Result<(), &'a str> {
-    let Some((place, name)) = raw_file(alloc, words, texts) else {
-        return Ok(());
-    };
-    let Some(text) = texts.get_mut(place) else {
-        return Ok(());
-    };
-    if !open_as_input(name) {
-        return Err(*text);
+/// Why the command line's words were not read.
+pub enum NotRead {
+    NoMemory,
+    /// The word at this place names a file that cannot be opened.
+    CannotOpen(usize),
+}
+
+impl From<AllocError> for NotRead {
+    fn from(_error: AllocError) -> NotRead {
+        NotRead::NoMemory
     }
-    *text = "-";
+}
+
+/// Opens the files whose names are no text, and has their words name them by one: a file that is alone, opened in the place of standard input,
+/// by `-`, and each of several by its descriptor.
+pub fn redirect(alloc: Global, words: &mut [Argument]) -> Result<(), NotRead> {
+    if words.iter().all(|word| word.raw.is_none()) {
+        return Ok(());
+    }
+    let files = raw_files(alloc, words)?;
+    for place in &files.places {
+        let Some(word) = words.get_mut(*place) else {
+            continue;
+        };
+        let name = match &word.raw {
+            Some(raw) if files.are_several => descriptor_name(alloc, raw)?,
+            Some(raw) => input_name(alloc, raw)?,
+            None => continue,
+        };
+        word.text = name.ok_or(NotRead::CannotOpen(*place))?;
+    }
     Ok(())
 }
 
-/// The place and the bytes of the word that names the stream's file, if they are no text.
-fn raw_file<'a>(alloc: Global, words: &'a [Argument], texts: &[&str]) -> Option<(usize, &'a [u8])> {
-    for (place, word) in words.iter().enumerate() {
-        match &word.raw {
-            Some(raw) if is_file(alloc, texts, word.text.as_str()) => return Some((place, raw)),
-            _ => {}
-        }
-    }
-    None
+/// Files whose names are no text.
+struct RawFiles {
+    /// The places of the words that name them.
+    places: Vec<usize>,
+    /// Whether the command line names more than one file.
+    are_several: bool,
 }
 
-/// Whether a command line has this text as its file's name.
-fn is_file(alloc: Global, texts: &[&str], text: &str) -> bool {
-    match CommandLine::parse(alloc, texts) {
-        Ok(CommandLine::Stream(options)) => options.file == text,
-        Ok(CommandLine::Capture(options)) => options.file == text,
-        Ok(CommandLine::Loop { .. }) | Err(_) => false,
+fn raw_files(alloc: Global, words: &[Argument]) -> Result<RawFiles, AllocError> {
+    let mut places = Vec::new(alloc);
+    let texts = texts(alloc, words)?;
+    let Ok(line) = CommandLine::parse(alloc, texts.as_slice()) else {
+        return Ok(RawFiles {
+            places,
+            are_several: false,
+        });
+    };
+    for (place, word) in words.iter().enumerate() {
+        if word.raw.is_some() && line.has_file(word.text.as_str()) {
+            places.push(place)?;
+        }
     }
+    let are_several = line.has_several_files();
+    Ok(RawFiles {
+        places,
+        are_several,
+    })
+}
+
+/// What names a file that is opened as standard input, if it can be.
+fn input_name(alloc: Global, name: &[u8]) -> Result<Option<String>, AllocError> {
+    if !open_as_input(name) {
+        return Ok(None);
+    }
+    let text = String::from_str(alloc, "-")?;
+    Ok(Some(text))
+}
+
+/// What names a file by a descriptor that is opened for it, if it can be.
+fn descriptor_name(alloc: Global, name: &[u8]) -> Result<Option<String>, AllocError> {
+    let descriptor = os::open_read(name);
+    if descriptor < 0 {
+        return Ok(None);
+    }
+    let text = format!(in alloc; "/dev/fd/{descriptor}")?;
+    Ok(Some(text))
 }
 
 /// Whether a file was opened as standard input: the least descriptor that is free is the one just closed.

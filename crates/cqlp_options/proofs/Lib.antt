@@ -1,3 +1,4 @@
+mod Files
 mod Lines
 mod Numbers
 mod Words

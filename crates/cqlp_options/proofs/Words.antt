@@ -84,6 +84,7 @@ bound_rule a m r f names xs more conflicts free =
 -- each form is free before its needs and conflicts are given
 pub rule_in_free : (name : Text) (f : Form) → (rule_in name f).is_free ≡ true
 rule_in_free name form.File = refl
+rule_in_free name form.Files = refl
 rule_in_free name (form.Count range) = refl
 rule_in_free name form.Flag = refl
 rule_in_free name (form.Text value) = refl

@@ -1,4 +1,5 @@
 pub mod Calendar
+pub mod CaptureFiles
 pub mod CaptureLimits
 pub mod CommandLines
 pub mod Ends

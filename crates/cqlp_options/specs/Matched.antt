@@ -2,9 +2,10 @@
 use Rattle.std.specs.Prelude.{◌≡◌, ℕ, ◌^◌, ◌<◌, Bool, true, false, not, List, Option, Some, None, IfSome, IsSomeAnd, codes, option_map, unwrap_or}
 use Rattle.std.specs.Borrow.{Bor}
 use Rattle.std.specs.Str.Parse.{IsNumeral, digits_value, without_leading_plus}
-use Rattle.clap.specs.Words.{Row, Text, first_of, one_of, subcommand_of}
+use Rattle.clap.specs.Words.{Row, Text, all_of, first_of, one_of, subcommand_of}
 use Rattle.cqlp_note.specs.declared.opcode.Opcode.{Opcode}
 use Rattle.cqlp_text.specs.Names.{opcode_name}
+use Rattle.cqlp_options.specs.CaptureFiles.{all_files}
 use Rattle.cqlp_options.specs.Ends.{NamesEnd}
 use Rattle.cqlp_options.specs.Program.{program}
 use Rattle.cqlp_options.specs.Seconds.{nanoseconds_of}
@@ -85,6 +86,10 @@ IsText option rows text = option_map (λ t. t.now) text ≡ first_of option rows
 -- a path
 abbrev pub IsPath : (option : Text) → List Row → Text → Type 0
 IsPath option rows path = first_of option rows ≡ Some path
+
+-- all texts that are given, in order
+abbrev pub AreTexts : (option : Text) → List Row → List Text → Type 0
+AreTexts option rows texts = all_of option rows ≡ Some texts
 
 -- ---- a task with a stream
 
@@ -186,7 +191,7 @@ pub record AreCaptureLimits (rows : List Row) (limits : CaptureLimits) : Type 0 
 pub record AreCaptureOptions (rows : List Row) (options : CaptureOptions) : Type 0 where
   pub task : IsCaptureTask rows options.task
   pub limits : AreCaptureLimits rows options.limits
-  pub file : IsPath (codes "file") rows options.file.now
+  pub files : AreTexts (codes "file") rows (all_files options)
 
 -- ---- a command line
 

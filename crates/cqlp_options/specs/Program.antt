@@ -11,6 +11,10 @@ use Rattle.clap.specs.declared.builder.value_parser.ValueParser.TheVariants as p
 abbrev pub path : Text → Rule
 path name = record (new_rule name) { value_names = 1; required = true }
 
+-- one or more paths in their place
+abbrev pub paths : Text → Rule
+paths name = record (path name) { action = Some Append }
+
 -- by its name alone
 abbrev pub flag : Text → Rule
 flag name = record (new_rule name) { long = Some name; action = Some SetTrue }
@@ -52,7 +56,7 @@ reading =
 
 abbrev pub capture : List Rule
 capture =
-    path (codes "file")
+    paths (codes "file")
     ∷ repeated (codes "9042") (in_range 1 65535 (named (codes "port")))
     ∷ in_range 0 4294967295 (named (codes "slow"))
     ∷ flag (codes "errors")

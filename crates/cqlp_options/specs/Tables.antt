@@ -17,6 +17,7 @@ parser_in range = parser.Signed (pos range.least) (pos range.greatest)
 -- a word of this name, given in this form
 abbrev pub rule_in : Text → Form → Rule
 rule_in name form.File = model.path name
+rule_in name form.Files = model.paths name
 rule_in name (form.Count range) = model.in_range range.least range.greatest (model.path name)
 rule_in name form.Flag = model.flag name
 rule_in name (form.Text value) = model.named name

@@ -1,20 +1,22 @@
 //! What is asked for with a capture.
 
-ghost use Rattle.std.specs.Prelude.{◌≡◌, ◌≤◌, IfOk, IfSome, codes, false, length};
+ghost use Rattle.std.specs.Prelude.{◌≡◌, ◌≤◌, ◌↔◌, ◌∷◌, IfOk, IfSome, IsTrue, codes, false, length};
 ghost use Rattle.clap.specs.Words.{found_of, rows_of};
 ghost use Rattle.cqlp_text.specs.Names.{opcode_name};
-ghost use Rattle.cqlp_options.specs.Matched.{AreCaptureOptions, AreExchanges, IsCaptureTask, IsExchangesForm, IsOpcode};
+ghost use Rattle.cqlp_options.specs.Matched.{AreCaptureOptions, AreExchanges, AreTexts, IsCaptureTask, IsExchangesForm, IsOpcode};
 ghost use Rattle.cqlp_options.specs.Matched.{IsSummaryBy, by_name, by_word, is_literal};
+ghost use Rattle.cqlp_options.specs.CaptureFiles.{GoesAlone, IsInputAlone, texts_of};
 ghost use Rattle.cqlp_options.specs.CaptureLimits.{AreWithin as AreWithinRanges};
 ghost use Rattle.cqlp_options.specs.Ports.{AreWithin, named};
 
-use crate::bad_value::BadValue;
+use crate::bad_value::{BadValue, NoLine};
 use crate::end::{AskedEnd, NoEnd, end};
 use crate::limits::CaptureLimits;
 use crate::matched::{flag, long_number, number, path};
 use crate::time::{AskedTime, time};
 use clap::ArgMatches;
 use cqlp_note::Opcode;
+use std::alloc::Global;
 
 /// How many ports may be named.
 pub const MOST_PORTS: usize = 16;
@@ -240,32 +242,64 @@ impl<'a> CaptureTask<'a> {
 }
 
 /// A task with a capture.
-#[derive(Clone, Copy)]
+#[derive(Drop)]
 pub struct CaptureOptions<'a> {
     pub task: CaptureTask<'a>,
     pub limits: CaptureLimits,
     pub ports: Ports,
-    /// The path of the capture's file, or `-` for standard input.
+    /// The path of the capture's first file, or `-` for standard input, which goes alone.
     pub file: &'a str,
+    /// The paths of further files, which were captured after it, in order.
+    pub more: Vec<&'a str>,
 }
 
 impl<'a> CaptureOptions<'a> {
-    /// What the words were matched to, if the limits are in their ranges, there are not too many ports, and what is asked of exchanges is there.
-    pub(crate) fn matched(matches: &ArgMatches<'a>) -> Result<CaptureOptions<'a>, BadValue>
+    /// What the words were matched to, if the limits are in their ranges, there are not too many ports, what is asked of exchanges is there, and
+    /// standard input goes alone.
+    pub(crate) fn matched(
+        alloc: Global,
+        matches: &ArgMatches<'a>,
+    ) -> Result<CaptureOptions<'a>, NoLine>
         ensures within { IfOk result (λ options. AreWithin options.ports × AreWithinRanges options.limits) }
+        ensures alone { IfOk result IsInputAlone }
         ensures words { IfOk result (AreCaptureOptions (rows_of (found_of matches.now))) }
     {
-        let file = path(matches, "file").ok_or(BadValue::Range)?;
+        let (file, others) = files_of(matches)?;
         let task = CaptureTask::matched(matches)?;
         let limits = CaptureLimits::matched(matches).ok_or(BadValue::Range)?;
         let ports = ports_of(matches).ok_or(BadValue::Range)?;
+        let mut more = Vec::new(alloc);
+        more.extend_from_slice(others)?;
         Ok(CaptureOptions {
             task,
             limits,
             ports,
             file,
+            more,
         })
     }
+}
+
+/// The paths of a capture's files, the first and the others, if standard input goes alone.
+fn files_of<'m, 'a>(matches: &'m ArgMatches<'a>) -> Result<(&'a str, &'m [&'a str]), BadValue>
+    ensures paths { IfOk result (λ files. AreTexts (codes "file") (rows_of (found_of matches.now)) (files.0.now ∷ texts_of files.1.now)) }
+    ensures alone { IfOk result (λ files. GoesAlone files.0.now (texts_of files.1.now)) }
+{
+    let Some([first, others @ ..]) = matches.get_strs("file") else {
+        return Err(BadValue::Range);
+    };
+    if is_input_alone(first, others) {
+        Ok((*first, others))
+    } else {
+        Err(BadValue::Input)
+    }
+}
+
+/// Whether standard input is none of several files.
+fn is_input_alone(first: &str, others: &[&str]) -> bool
+    ensures { IsTrue result ↔ GoesAlone first.now (texts_of others.now) }
+{
+    others.is_empty() || (first != "-" && !others.contains(&"-"))
 }
 
 fn ports_of(matches: &ArgMatches<'_>) -> Option<Ports>

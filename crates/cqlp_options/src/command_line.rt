@@ -1,11 +1,13 @@
 //! Command lines.
 
-ghost use Rattle.std.specs.Prelude.{◌≤◌, IfOk, IfSome, Some, codes, map};
+ghost use Rattle.std.specs.Prelude.{◌≡◌, ◌≤◌, IfOk, IfSome, Some, codes, length, map, nat_lt};
+ghost use Rattle.std.specs.List.{list_any};
+ghost use Rattle.std.specs.Str.{bytes_eq};
 ghost use Rattle.clap.specs.Words.{found_of, rows_of, subcommand_rows_of};
-ghost use Rattle.cqlp_options.specs.CommandLines.{IsWithin};
+ghost use Rattle.cqlp_options.specs.CommandLines.{HasInputAlone, IsWithin, files_of};
 ghost use Rattle.cqlp_options.specs.Matched.{AskFor, IsLineOf, IsNumber};
 
-use crate::bad_value::BadValue;
+use crate::bad_value::{BadValue, NoLine};
 use crate::capture::CaptureOptions;
 use crate::matched::short_number;
 use crate::no_task::{NoTask, no_task_of};
@@ -15,7 +17,7 @@ use crate::reported::report_all;
 use clap::error::ErrorKind;
 use clap::{ArgMatches, Command, Error};
 use cqlp_note::LimitRange;
-use std::alloc::Global;
+use std::alloc::{AllocError, Global};
 use std::convert::AsStr;
 
 /// How many queries a conversation may have.
@@ -25,7 +27,7 @@ pub const QUERIES: LimitRange = LimitRange {
 };
 
 /// What a command line asks for.
-#[derive(Clone, Copy)]
+#[derive(Drop)]
 pub enum CommandLine<'a> {
     /// A task with a stream.
     Stream(Options<'a>),
@@ -40,11 +42,33 @@ impl<'a> CommandLine<'a> {
     /// version, is an error, whose text says what is wrong or what was asked for.
     pub fn parse(alloc: Global, words: &'a [&'a str]) -> Result<CommandLine<'a>, NoTask>
         ensures within { IfOk result IsWithin }
+        ensures alone { IfOk result HasInputAlone }
         ensures words { IfOk result (AskFor (map (λ word. word.now) words.entry.now)) }
     {
         match parsed(alloc, words) {
             Ok(line) => Ok(line),
             Err(error) => Err(no_task(alloc, words, &error)),
+        }
+    }
+
+    /// Whether a file that it names has this path.
+    pub fn has_file(&self, path: &str) -> bool
+        ensures { result ≡ list_any (λ file. bytes_eq file path.now) (files_of self.now) }
+    {
+        match self {
+            CommandLine::Stream(options) => options.file == path,
+            CommandLine::Loop { .. } => false,
+            CommandLine::Capture(options) => options.file == path || options.more.contains(&path),
+        }
+    }
+
+    /// Whether it names more than one file.
+    pub fn has_several_files(&self) -> bool
+        ensures { result ≡ nat_lt 1 (length (files_of self.now)) }
+    {
+        match self {
+            CommandLine::Capture(options) => !options.more.is_empty(),
+            CommandLine::Stream(_) | CommandLine::Loop { .. } => false,
         }
     }
 }
@@ -63,13 +87,15 @@ fn no_task(alloc: Global, words: &[&str], error: &Error) -> NoTask {
 
 fn parsed<'a, S: AsStr>(alloc: Global, words: &'a [S]) -> Result<CommandLine<'a>, Error>
     ensures within { IfOk result IsWithin }
+    ensures alone { IfOk result HasInputAlone }
     ensures words { IfOk result (AskFor (map S.text words.entry.now)) }
 {
     let mut program = program(alloc)?;
     let matches = program.try_get_matches_from_mut(words)?;
-    match line_of(&matches) {
+    match line_of(alloc, &matches) {
         Ok(line) => Ok(line),
-        Err(bad) => Err(bad_value(&mut program, bad)),
+        Err(NoLine::BadValue(bad)) => Err(bad_value(&mut program, bad)),
+        Err(NoLine::NoMemory) => Err(Error::from(AllocError)),
     }
 }
 
@@ -81,8 +107,9 @@ fn bad_value(program: &mut Command<'_>, bad: BadValue) -> Error {
 }
 
 /// What the words of a command line were matched to, if its values are good.
-fn line_of<'a>(matches: &ArgMatches<'a>) -> Result<CommandLine<'a>, BadValue>
+fn line_of<'a>(alloc: Global, matches: &ArgMatches<'a>) -> Result<CommandLine<'a>, NoLine>
     ensures within { IfOk result IsWithin }
+    ensures alone { IfOk result HasInputAlone }
     ensures words { IfOk result (IsLineOf (subcommand_rows_of matches.now)) }
 {
     match matches.subcommand().ok_or(BadValue::Range)? {
@@ -91,7 +118,7 @@ fn line_of<'a>(matches: &ArgMatches<'a>) -> Result<CommandLine<'a>, BadValue>
             Ok(CommandLine::Loop { queries })
         }
         ("capture", matches) => {
-            let options = CaptureOptions::matched(matches)?;
+            let options = CaptureOptions::matched(alloc, matches)?;
             Ok(CommandLine::Capture(options))
         }
         (name, matches) => {

@@ -110,6 +110,10 @@ fn formed<'a>(arg: Arg<'a>, name: &'static str, form: Form) -> Arg<'a>
 {
     match form {
         Form::File => arg.value_name("FILE").required(true),
+        Form::Files => arg
+            .value_name("FILE")
+            .required(true)
+            .action(ArgAction::Append),
         Form::Count(range) => arg
             .value_name("COUNT")
             .required(true)
@@ -165,6 +169,8 @@ struct Word {
 enum Form {
     /// By a path in its place.
     File,
+    /// By a path in its place, or by several, which options may part.
+    Files,
     /// By a number in its place, in this range.
     Count(LimitRange),
     /// By its name alone.
@@ -337,8 +343,8 @@ const ALL: LimitRange = LimitRange {
 const CAPTURE: [Word; 23] = [
     Word {
         name: "file",
-        form: Form::File,
-        help: "The capture, a pcap or pcapng file; - is standard input",
+        form: Form::Files,
+        help: "The capture, a pcap or pcapng file, or several that were captured one after the other; - is standard input",
         with: &[],
         without: &[],
     },

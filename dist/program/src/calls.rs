@@ -6,6 +6,7 @@ use crate::cqlp_grammar::{Event, Sink, SinkFault};
 use crate::cqlp_kind::{Kind, Scalar};
 use crate::cqlp_message::Frame;
 use crate::cqlp_note::{Asked, Limits, NoMemory, Partial};
+use crate::cqlp_options::{CommandLine, NoTask};
 use crate::cqlp_round_trip::{RoundTripError, write_and_read};
 use crate::cqlp_type::{TypeReader, TypeTable};
 use crate::heap::{measured, refusing};
@@ -83,6 +84,18 @@ fn memory_that_is_refused() {
             }
         }
     }
+}
+
+/// The last request of a command line with several files is for the paths behind the first; without it there is no memory, and no mistake.
+#[test]
+fn files_without_memory() {
+    let parsed = || CommandLine::parse(Global, &["capture", "a", "--json", "b", "c"]);
+    let ((line, requests), _, kept) = measured(|| {
+        let (line, requests) = refusing(u64::MAX, u64::MAX, parsed);
+        (line.map(|line| matches!(line, CommandLine::Capture(options) if options.file == "a" && options.more[..] == ["b", "c"])), requests)
+    });
+    assert!(matches!((line, kept), (Ok(true), 0)));
+    assert!(matches!(refusing(requests, requests, parsed).0, Err(NoTask::NoMemory)));
 }
 
 /// A scalar is found where its type has such a content, whole and within the limits, the frame has room for it, and it is there; of no value none is.

@@ -4,7 +4,7 @@
 use crate::kit_host::prelude::{AllocGlobal, HostRuntime, eprintln};
 mod words;
 
-use crate::cqlp::words::{read_words, redirect, texts};
+use crate::cqlp::words::{Argument, NotRead, read_words, redirect, texts};
 use crate::cqlp_note::OfStd;
 use crate::cqlp_text::cannot_open_line;
 use crate::cqlp_text::exit_status::FAULT;
@@ -24,12 +24,16 @@ pub fn main(rt: HostRuntime) -> ExitCode {
 
 /// Does what the words after the program's name say. Answers the exit status.
 fn run(rt: &HostRuntime) -> Result<u8, AllocError> {
-    let words = read_words(rt)?;
-    let mut texts = texts(rt.alloc(), &words)?;
-    if let Err(name) = redirect(rt.alloc(), &words, &mut texts) {
-        let _ = cannot_open_line(name, &mut OfStd::new(rt.stderr()));
-        return Ok(FAULT);
+    let mut words = read_words(rt)?;
+    match redirect(rt.alloc(), &mut words) {
+        Ok(()) => {}
+        Err(NotRead::NoMemory) => return Err(AllocError),
+        Err(NotRead::CannotOpen(place)) => {
+            report_unopened(rt, &words, place);
+            return Ok(FAULT);
+        }
     }
+    let texts = texts(rt.alloc(), &words)?;
     let mut input = OfStd::new(rt.stdin());
     let out = OfStd::new(rt.stdout());
     let err = OfStd::new(rt.stderr());
@@ -41,4 +45,11 @@ fn run(rt: &HostRuntime) -> Result<u8, AllocError> {
     let texts = texts.as_slice();
     let (status, _, _) = command_with_notes(rt, texts, &mut input, out, err, &mut notes);
     Ok(status)
+}
+
+/// Reports that the file cannot be opened that the word at a place names.
+fn report_unopened(rt: &HostRuntime, words: &[Argument], place: usize) {
+    if let Some(word) = words.get(place) {
+        let _ = cannot_open_line(word.text.as_str(), &mut OfStd::new(rt.stderr()));
+    }
 }

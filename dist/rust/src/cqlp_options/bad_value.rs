@@ -1,11 +1,15 @@
 // Written by dist/erase from crates/cqlp_options/src/bad_value.rt.
 //! Values of options that are none.
 
+use crate::kit_std::alloc::AllocError;
+
 /// What is wrong with the value of an option that the parser takes.
 #[derive(Clone, Copy)]
 pub(crate) enum BadValue {
     /// A number is not in its range.
     Range,
+    /// Standard input is a file among several.
+    Input,
     /// No request has an opcode of this name.
     Opcode,
     /// A client is not named by an address.
@@ -27,6 +31,9 @@ impl BadValue {
     pub(crate) fn text(self) -> &'static str {
         match self {
             BadValue::Range => "a number is out of its range",
+            BadValue::Input => {
+                "invalid value '-' for '<FILE>...': it is standard input, and goes alone; a file of that name is ./-"
+            }
             BadValue::Opcode => {
                 "invalid value for '--opcode <NAME>': it is none of STARTUP, OPTIONS, QUERY, PREPARE, EXECUTE, BATCH, REGISTER and \
                  AUTH_RESPONSE"
@@ -52,5 +59,25 @@ impl BadValue {
                 "the argument '--literal' cannot be used with '--by <WHAT>', unless that is statement"
             }
         }
+    }
+}
+
+/// Why what the words were matched to is no command line.
+#[derive(Clone, Copy)]
+pub(crate) enum NoLine {
+    BadValue(BadValue),
+    /// There was no memory for it.
+    NoMemory,
+}
+
+impl From<BadValue> for NoLine {
+    fn from(bad: BadValue) -> NoLine {
+        NoLine::BadValue(bad)
+    }
+}
+
+impl From<AllocError> for NoLine {
+    fn from(_error: AllocError) -> NoLine {
+        NoLine::NoMemory
     }
 }

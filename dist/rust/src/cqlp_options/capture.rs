@@ -1,13 +1,15 @@
 // Written by dist/erase from crates/cqlp_options/src/capture.rt.
 //! What is asked for with a capture.
 
-use crate::cqlp_options::bad_value::BadValue;
+use crate::kit_host::prelude::{AllocGlobal, Vec};
+use crate::cqlp_options::bad_value::{BadValue, NoLine};
 use crate::cqlp_options::end::{AskedEnd, end};
 use crate::cqlp_options::limits::CaptureLimits;
 use crate::cqlp_options::matched::{flag, long_number, number, path};
 use crate::cqlp_options::time::{AskedTime, time};
 use crate::clap::ArgMatches;
 use crate::cqlp_note::Opcode;
+use crate::kit_std::alloc::Global;
 
 /// How many ports may be named.
 pub const MOST_PORTS: usize = 16;
@@ -213,29 +215,54 @@ impl<'a> CaptureTask<'a> {
 }
 
 /// A task with a capture.
-#[derive(Clone, Copy)]
 pub struct CaptureOptions<'a> {
     pub task: CaptureTask<'a>,
     pub limits: CaptureLimits,
     pub ports: Ports,
-    /// The path of the capture's file, or `-` for standard input.
+    /// The path of the capture's first file, or `-` for standard input, which goes alone.
     pub file: &'a str,
+    /// The paths of further files, which were captured after it, in order.
+    pub more: Vec<&'a str>,
 }
 
 impl<'a> CaptureOptions<'a> {
-    /// What the words were matched to, if the limits are in their ranges, there are not too many ports, and what is asked of exchanges is there.
-    pub(crate) fn matched(matches: &ArgMatches<'a>) -> Result<CaptureOptions<'a>, BadValue> {
-        let file = path(matches, "file").ok_or(BadValue::Range)?;
+    /// What the words were matched to, if the limits are in their ranges, there are not too many ports, what is asked of exchanges is there, and
+    /// standard input goes alone.
+    pub(crate) fn matched(
+        alloc: Global,
+        matches: &ArgMatches<'a>,
+    ) -> Result<CaptureOptions<'a>, NoLine> {
+        let (file, others) = files_of(matches)?;
         let task = CaptureTask::matched(matches)?;
         let limits = CaptureLimits::matched(matches).ok_or(BadValue::Range)?;
         let ports = ports_of(matches).ok_or(BadValue::Range)?;
+        let mut more = Vec::new(alloc);
+        more.extend_from_slice(others)?;
         Ok(CaptureOptions {
             task,
             limits,
             ports,
             file,
+            more,
         })
     }
+}
+
+/// The paths of a capture's files, the first and the others, if standard input goes alone.
+fn files_of<'m, 'a>(matches: &'m ArgMatches<'a>) -> Result<(&'a str, &'m [&'a str]), BadValue> {
+    let Some([first, others @ ..]) = matches.get_strs("file") else {
+        return Err(BadValue::Range);
+    };
+    if is_input_alone(first, others) {
+        Ok((*first, others))
+    } else {
+        Err(BadValue::Input)
+    }
+}
+
+/// Whether standard input is none of several files.
+fn is_input_alone(first: &str, others: &[&str]) -> bool {
+    others.is_empty() || (first != "-" && !others.contains(&"-"))
 }
 
 fn ports_of(matches: &ArgMatches<'_>) -> Option<Ports> {

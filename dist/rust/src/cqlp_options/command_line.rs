@@ -2,7 +2,7 @@
 //! Command lines.
 
 use crate::kit_host::prelude::{AllocGlobal};
-use crate::cqlp_options::bad_value::BadValue;
+use crate::cqlp_options::bad_value::{BadValue, NoLine};
 use crate::cqlp_options::capture::CaptureOptions;
 use crate::cqlp_options::matched::short_number;
 use crate::cqlp_options::no_task::{NoTask, no_task_of};
@@ -12,7 +12,7 @@ use crate::cqlp_options::reported::report_all;
 use crate::clap::error::ErrorKind;
 use crate::clap::{ArgMatches, Command, Error};
 use crate::cqlp_note::LimitRange;
-use crate::kit_std::alloc::Global;
+use crate::kit_std::alloc::{AllocError, Global};
 use crate::kit_host::text::AsStr;
 
 /// How many queries a conversation may have.
@@ -22,7 +22,6 @@ pub const QUERIES: LimitRange = LimitRange {
 };
 
 /// What a command line asks for.
-#[derive(Clone, Copy)]
 pub enum CommandLine<'a> {
     /// A task with a stream.
     Stream(Options<'a>),
@@ -39,6 +38,23 @@ impl<'a> CommandLine<'a> {
         match parsed(alloc, words) {
             Ok(line) => Ok(line),
             Err(error) => Err(no_task(alloc, words, &error)),
+        }
+    }
+
+    /// Whether a file that it names has this path.
+    pub fn has_file(&self, path: &str) -> bool {
+        match self {
+            CommandLine::Stream(options) => options.file == path,
+            CommandLine::Loop { .. } => false,
+            CommandLine::Capture(options) => options.file == path || options.more.contains(&path),
+        }
+    }
+
+    /// Whether it names more than one file.
+    pub fn has_several_files(&self) -> bool {
+        match self {
+            CommandLine::Capture(options) => !options.more.is_empty(),
+            CommandLine::Stream(_) | CommandLine::Loop { .. } => false,
         }
     }
 }
@@ -58,9 +74,10 @@ fn no_task(alloc: Global, words: &[&str], error: &Error) -> NoTask {
 fn parsed<'a, S: AsStr>(alloc: Global, words: &'a [S]) -> Result<CommandLine<'a>, Error> {
     let mut program = program(alloc)?;
     let matches = program.try_get_matches_from_mut(words)?;
-    match line_of(&matches) {
+    match line_of(alloc, &matches) {
         Ok(line) => Ok(line),
-        Err(bad) => Err(bad_value(&mut program, bad)),
+        Err(NoLine::BadValue(bad)) => Err(bad_value(&mut program, bad)),
+        Err(NoLine::NoMemory) => Err(Error::from(AllocError)),
     }
 }
 
@@ -72,14 +89,14 @@ fn bad_value(program: &mut Command<'_>, bad: BadValue) -> Error {
 }
 
 /// What the words of a command line were matched to, if its values are good.
-fn line_of<'a>(matches: &ArgMatches<'a>) -> Result<CommandLine<'a>, BadValue> {
+fn line_of<'a>(alloc: Global, matches: &ArgMatches<'a>) -> Result<CommandLine<'a>, NoLine> {
     match matches.subcommand().ok_or(BadValue::Range)? {
         ("loop", matches) => {
             let queries = queries_of(matches).ok_or(BadValue::Range)?;
             Ok(CommandLine::Loop { queries })
         }
         ("capture", matches) => {
-            let options = CaptureOptions::matched(matches)?;
+            let options = CaptureOptions::matched(alloc, matches)?;
             Ok(CommandLine::Capture(options))
         }
         (name, matches) => {

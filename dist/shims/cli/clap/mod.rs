@@ -1,5 +1,5 @@
-//! What the program's command line uses of clap's builder: subcommands, one positional argument each, flags, options with a value. The
-//! words, the order of the checks and the texts are clap's; colours, short options but `-h` and `-V`, and all else that the program does
+//! What the program's command line uses of clap's builder: subcommands, one positional argument each, which may have several words, flags, options with a
+//! value. The words, the order of the checks and the texts are clap's; colours, short options but `-h` and `-V`, and all else that the program does
 //! not use are left out. Written by hand, and not proved; dist/words compares it with the proved program.
 use crate::kit_host::text::AsStr;
 use crate::kit_std::alloc::{AllocError, Global};
@@ -76,11 +76,8 @@ impl ValueParser<'_> {
     }
 
     pub fn range(self, range: impl RangeBounds<i64>) -> Self {
-        let least = match range.start_bound() {
-            Bound::Included(&least) => least.into(),
-            Bound::Excluded(&below) => i128::from(below) + 1,
-            Bound::Unbounded => self.least,
-        };
+        // No range of Rust leaves out its start.
+        let least = if let Bound::Included(&least) = range.start_bound() { least.into() } else { self.least };
         let greatest = match range.end_bound() {
             Bound::Included(&greatest) => greatest.into(),
             Bound::Excluded(&above) => i128::from(above) - 1,
@@ -295,16 +292,16 @@ pub struct ArgMatches<'a> {
 }
 
 impl<'a> ArgMatches<'a> {
-    fn values(&self, id: &str) -> Option<&[&'a str]> {
+    pub fn get_strs(&self, id: &str) -> Option<&[&'a str]> {
         self.met.iter().find(|met| met.id == id).map(|met| met.values.as_slice())
     }
 
     pub fn get_flag(&self, id: &str) -> bool {
-        self.values(id).is_some()
+        self.get_strs(id).is_some()
     }
 
     pub fn get_str(&self, id: &str) -> Option<&'a str> {
-        self.values(id)?.first().copied()
+        self.get_strs(id)?.first().copied()
     }
 
     pub fn get_one<T: FromStr>(&self, id: &str) -> Option<T> {
@@ -312,7 +309,7 @@ impl<'a> ArgMatches<'a> {
     }
 
     pub fn get_many<T: FromStr>(&self, id: &str) -> Option<impl Iterator<Item = Result<T, T::Err>>> {
-        Some(self.values(id)?.iter().map(|word| word.parse()))
+        Some(self.get_strs(id)?.iter().map(|word| word.parse()))
     }
 
     pub fn subcommand(&self) -> Option<(&'a str, &ArgMatches<'a>)> {

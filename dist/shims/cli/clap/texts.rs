@@ -9,6 +9,7 @@ use std::vec::Vec;
 impl fmt::Display for Arg<'_> {
     fn fmt(&self, f: &mut fmt::Formatter<'_>) -> fmt::Result {
         match self.long {
+            None if self.action == super::ArgAction::Append => write!(f, "<{}>...", self.value_name),
             None => write!(f, "<{}>", self.value_name),
             Some(long) if self.takes_value() => write!(f, "--{long} <{}>", self.value_name),
             Some(long) => write!(f, "--{long}"),

@@ -68,7 +68,7 @@ impl<'c, 'a> Walk<'c, 'a> {
                 Some(arg) => {
                     self.resolve_pending()?;
                     self.pending = Some(Pending { arg, values: Vec::from([word]) });
-                    (has_positional, wants_value) = (true, false);
+                    (has_positional, wants_value) = (arg.action != ArgAction::Append, false);
                 }
                 None => {
                     let _ = self.resolve_pending();

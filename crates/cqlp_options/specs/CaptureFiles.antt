@@ -1,0 +1,24 @@
+-- The files of a capture that a command line names.
+use Rattle.std.specs.Prelude.{◌≡◌, ◌≢◌, ℕ, List, [], ◌∷◌, codes, map}
+use Rattle.std.specs.Borrow.{Bor}
+use Rattle.std.specs.List.{All}
+use Rattle.cqlp_options.specs.declared.capture.CaptureOptions.{CaptureOptions}
+
+abbrev pub texts_of : List (Bor (List ℕ)) → List (List ℕ)
+texts_of = map (λ text. text.now)
+
+-- the paths of the files behind the first, in order
+abbrev pub more_files : CaptureOptions → List (List ℕ)
+more_files options = texts_of options.more.items
+
+-- the paths of all files, in order
+abbrev pub all_files : CaptureOptions → List (List ℕ)
+all_files options = options.file.now ∷ more_files options
+
+-- standard input is none of several files
+pub record GoesAlone (first : List ℕ) (others : List (List ℕ)) : Type 0 where
+  pub first_alone : first ≡ codes "-" → others ≡ []
+  pub no_other : All (λ file. file ≢ codes "-") others
+
+abbrev pub IsInputAlone : CaptureOptions → Type 0
+IsInputAlone options = GoesAlone options.file.now (more_files options)
