@@ -1,10 +1,12 @@
 #!/usr/bin/env python3
 """captures/objects.py FILE COMMAND..: prints what is wrong with the objects (--json) and the summary (--summary) that `cqlp capture` writes of a
 capture, beside its lines, which lines.py reads in another way. Each object has to say what its line says, all the same first moment, and those of a
-connection the same ends; and each statement of the summary what its lines add up to, and with --by each client, node, opcode and error, also as JSON."""
+connection the same ends; and each statement of the summary what its lines add up to, and with --by each table, client, node, opcode and error, also as
+JSON."""
 import collections
 import datetime
 import json
+import re
 import subprocess
 import sys
 from decimal import Decimal
@@ -110,8 +112,28 @@ def sums(objects):
     return found
 
 
+# White space and comments; a name in double quotes; a text, a number, a word or a sign.
+BLANK = r"\s+|(?:--|//)[^\n\r]*|/\*.*?(?:\*/|\Z)"
+PIECE = re.compile(BLANK + r"""|(?:"[^"]*")+(?!")|".*|'[^']*(?:'|\Z)|\$\$.*?(?:\$\$|\Z)|[0-9][\w.]*|\w+|.""", re.DOTALL)
+NAME = re.compile(r'[^\W0-9]\w*|(?:"[^"]*")+')
+
+
+def table_of(text, is_whole):
+    """The table that a statement names, or None where it names none or more of the name may come."""
+    pieces = [piece if piece[0] in "\"'" else piece.lower() for piece in PIECE.findall(text) if not re.fullmatch(BLANK, piece, re.DOTALL)]
+    at = next((at for at, piece in enumerate(pieces) if piece in ("from", "into", "update", "truncate")), len(pieces))
+    behind = pieces[at + 1 + (pieces[at : at + 2] == ["truncate", "table"]) :]
+    count = 3 if behind[1:2] == ["."] else 1
+    name = behind[:count]
+    if len(name) < count or not all(map(NAME.fullmatch, name[::2])) or len(behind) == count and not is_whole:
+        return None
+    return "".join(name)
+
+
 def name_by(what, of):
     """What a request is counted under with --by."""
+    if what == "table":
+        return of["statement"] and table_of(of["statement"], of["statement_is_whole"]) or of["request"]
     if what == "client":
         return of["client"].rpartition(":")[0].strip("[]")
     if what in ("node", "opcode"):
@@ -146,7 +168,7 @@ def counted_by(what, objects):
 
 def rows_by(what, objects):
     """The numbers of each row of a summary by this, but for the share and the percentiles."""
-    return {name: [milliseconds(sum(times)), *map(str, numbers), milliseconds(max(times)) if times else "-"]
+    return {shown(name, True)[0]: [milliseconds(sum(times)), *map(str, numbers), milliseconds(max(times)) if times else "-"]
             for name, (numbers, times, _) in counted_by(what, objects).items()}
 
 
@@ -206,7 +228,7 @@ def main(file, *command):
         counted[words[11]] = [int(word) for word in words[2:7]]
     if counted != sums(objects):
         print(f"{counted}\n{dict(sums(objects))}")
-    for what in ("client", "node", "opcode", "error"):
+    for what in ("table", "client", "node", "opcode", "error"):
         (heading, *rows), said_of_rows = written(command, file, "--summary", "--by", what)
         if said_of_rows != said or heading.split()[11:] != [what] or rows_of(rows) != rows_by(what, objects):
             print(f"by {what}: {rows_of(rows)}\n{rows_by(what, objects)}")

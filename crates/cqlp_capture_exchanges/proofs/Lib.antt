@@ -12,3 +12,4 @@ pub mod WrittenOnce
 pub mod Pooled
 mod Parts
 mod SummaryObjects
+mod TableNames

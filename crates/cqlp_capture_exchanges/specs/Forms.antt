@@ -44,6 +44,7 @@ attribute_heading attribute.Error = codes "error"
 
 abbrev pub heading_of : SummaryBy → List ℕ
 heading_of (by.Statement n) = codes "statement"
+heading_of by.Table = codes "table"
 heading_of (by.Attribute a) = attribute_heading a
 
 abbrev pub ending_of : ExchangeForm → Summary → List ℕ

@@ -18,6 +18,7 @@ pub mod Forms
 pub mod Accounts
 pub mod Talks
 pub mod Pools
+pub mod TableNames
 pub mod Tables
 pub mod Losses
 pub mod Listening

@@ -30,6 +30,7 @@ use Rattle.cqlp_capture_exchanges.specs.declared.span.Span.{Span}
 use Rattle.cqlp_capture_exchanges.specs.Filters.{is_error as is_error_opcode, is_failure}
 use Rattle.cqlp_capture_exchanges.specs.Spans.{took}
 use Rattle.cqlp_capture_exchanges.specs.Statements.{Said, Text, Id, statement}
+use Rattle.cqlp_capture_exchanges.specs.TableNames.{table_name}
 use Rattle.cqlp_capture_exchanges.specs.Times.{joined}
 
 -- A time that went back is not known.
@@ -145,10 +146,24 @@ name_by attribute.Error n q o = error_text o.reply o.is_error
 abbrev pub with_attribute : Attribute → Connection → Message Kept → Outcome → Summary → Summary
 with_attribute a n q o s = noted_request (request_as (name_by a n q o) true o) s
 
+-- ---- counted under the table that its statement names, or under its opcode
+
+abbrev pub table_request : (name : Option (List ℕ)) → Message Kept → Outcome → Request
+table_request (Some name) q o = request_as name true o
+table_request None q o = opcode_request q o
+
+abbrev pub table_of : Option Said → Option (List ℕ)
+table_of (Some (Text text is_whole)) = table_name text is_whole
+table_of s = None
+
+abbrev pub with_table : (known : List Preparation) → Message Kept → Outcome → Summary → Summary
+with_table known q o s = noted_request (table_request (table_of (named known (statement q.frame.header q.kept.front))) q o) s
+
 -- ---- by what is asked for
 
 abbrev pub with_request_by : SummaryBy → (known : List Preparation) → Connection → Message Kept → Outcome → Summary → Summary
 with_request_by (by.Statement m) known n q o s = with_request m known q o s
+with_request_by by.Table known n q o s = with_table known q o s
 with_request_by (by.Attribute a) known n q o s = with_attribute a n q o s
 
 abbrev pub with_paired : SummaryBy → (known : List Preparation) → Connection → Paired Kept → Summary → Summary

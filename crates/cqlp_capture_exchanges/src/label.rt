@@ -1,7 +1,7 @@
 //! The first bytes of a text, as many as a summary keeps of a name.
 
 ghost use Rattle.std.specs.Prelude.{◌≡◌, ◌+◌, ◌<◌, ◌≤◌, ◌++◌, length};
-ghost use Rattle.cqlp_capture_exchanges.specs.Labels.{label};
+ghost use Rattle.cqlp_capture_exchanges.specs.Labels.{label, taken};
 
 use cqlp_note::{IoFault, Target};
 use std::marker::Model;
@@ -63,6 +63,25 @@ impl Label {
         let end = self.len + bytes.len();
         self.bytes[self.len..end].copy_from_slice(bytes);
         self.len = end;
+    }
+
+    /// Takes a byte, if there is room for it.
+    pub(crate) fn push(&mut self, byte: u8)
+        ensures { self.new ≡ taken byte self.old }
+    {
+        if self.len < ROOM {
+            self.bytes[self.len] = byte;
+            self.len += 1;
+        }
+    }
+
+    /// Lets go of what was taken.
+    pub(crate) fn clear(&mut self)
+        ensures { self.new ≡ label [] 0 0 }
+    {
+        self.len = 0;
+        self.failures = 0;
+        self.writes = 0;
     }
 }
 

@@ -31,6 +31,7 @@ mod summary_by;
 mod summary_objects;
 mod sums;
 mod table;
+mod table_name;
 
 pub use capturing::write_exchanges;
 pub use exchanges::Exchanges;

@@ -1,12 +1,13 @@
 //! Requests with what came of them, counted in a summary.
 
-ghost use Rattle.std.specs.Prelude.{◌≡◌, ◌&&◌, length, nat_le};
+ghost use Rattle.std.specs.Prelude.{◌≡◌, ◌&&◌, length, nat_le, option_map};
 ghost use Rattle.cqlp_capture_summary.specs.Summaries.{noted_request};
 ghost use Rattle.cqlp_capture_exchanges.specs.Reports.{report_of};
 ghost use Rattle.cqlp_capture_exchanges.specs.Forms.{noted_in};
 ghost use Rattle.cqlp_capture_exchanges.specs.Notings.{answered_by, id_request, is_batch, nanoseconds_in, noted_as, opcode_request, request_as};
-ghost use Rattle.cqlp_capture_exchanges.specs.Notings.{rows_in, text_request, unanswered, with_attribute, with_paired};
-ghost use Rattle.cqlp_capture_exchanges.specs.Notings.{with_report, with_request, with_request_by};
+ghost use Rattle.cqlp_capture_exchanges.specs.Notings.{rows_in, table_of, text_request, unanswered, with_attribute, with_paired};
+ghost use Rattle.cqlp_capture_exchanges.specs.Notings.{with_report, with_request, with_request_by, with_table};
+ghost use Rattle.cqlp_capture_exchanges.specs.Statements.{said_of};
 
 use crate::attribute::{append_attribute, append_id};
 use crate::batch_name::{MOST, batch_name};
@@ -22,6 +23,7 @@ use crate::report::Report;
 use crate::span::{Span, took};
 use crate::statement::{Statement, statement_of};
 use crate::summary_by::{Attribute, SummaryBy};
+use crate::table_name::table_name;
 use cqlp_capture_summary::{Occurrence, Summary};
 use cqlp_note::Opcode;
 use cqlp_observer::{Kept, Message, Paired};
@@ -125,9 +127,36 @@ fn note_by<A: Allocator, B: Allocator>(
 {
     match by {
         SummaryBy::Statement(naming) => note_request(summary, naming, known, request, outcome),
+        SummaryBy::Table => note_table(summary, known, request, outcome),
         SummaryBy::Attribute(attribute) => {
             note_attribute(summary, attribute, connection, request, outcome);
         }
+    }
+}
+
+/// Counts a request under the table that its statement names, or under its opcode.
+fn note_table<A: Allocator, B: Allocator>(
+    summary: &mut Summary<A>,
+    known: &[Preparation<B>],
+    request: &Message<Kept<B>>,
+    outcome: &Outcome,
+)
+    ensures { summary.new ≡ with_table known.now request.now outcome.now summary.old }
+{
+    let own = statement_of(&request.frame.header, request.kept.front());
+    match table_of(named(known, own)) {
+        Some(name) => note_as(summary, Naming::Literal, name.as_slice(), true, outcome),
+        None => note_opcode(summary, Naming::Literal, request, outcome),
+    }
+}
+
+/// The table that a statement names, if its text is known.
+fn table_of(statement: Option<Statement<'_>>) -> Option<Label>
+    ensures { option_map (λ l. l.text) result ≡ table_of (option_map said_of statement.entry) }
+{
+    match statement {
+        Some(Statement::Text { text, is_whole }) => table_name(text.as_bytes(), is_whole),
+        _ => None,
     }
 }
 

@@ -10,6 +10,8 @@ use crate::naming::Naming;
 pub enum SummaryBy {
     /// Their statements.
     Statement(Naming),
+    /// The tables that their statements name.
+    Table,
     /// Another attribute.
     Attribute(Attribute),
 }
@@ -34,6 +36,7 @@ impl SummaryBy {
     {
         match self {
             SummaryBy::Statement(_) => "statement",
+            SummaryBy::Table => "table",
             SummaryBy::Attribute(attribute) => attribute_heading(attribute),
         }
     }

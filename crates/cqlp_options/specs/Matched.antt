@@ -134,6 +134,7 @@ by_word rows = unwrap_or (first_of (codes "by") rows) (codes "statement")
 
 abbrev pub by_name : SummaryBy → Text
 by_name (by.Statement literal) = codes "statement"
+by_name by.Table = codes "table"
 by_name by.Client = codes "client"
 by_name by.Node = codes "node"
 by_name by.Opcode = codes "opcode"

@@ -52,7 +52,7 @@ impl BadValue {
                  the point"
             }
             BadValue::By => {
-                "invalid value for '--by <WHAT>': it is none of statement, client, node, opcode and error"
+                "invalid value for '--by <WHAT>': it is none of statement, table, client, node, opcode and error"
             }
             BadValue::Literal => {
                 "the argument '--literal' cannot be used with '--by <WHAT>', unless that is statement"

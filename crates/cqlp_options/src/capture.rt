@@ -106,6 +106,8 @@ pub enum SummaryBy {
         /// Whether statements that differ in their literals alone count each for itself.
         literal: bool,
     },
+    /// The tables that their statements name.
+    Table,
     /// The client's address, at whichever port.
     Client,
     /// The node's address and port.
@@ -149,6 +151,7 @@ fn attribute_named(word: &str) -> Option<SummaryBy>
     ensures literal { IfSome result (λ by. is_literal by ≡ false) }
 {
     match word {
+        "table" => Some(SummaryBy::Table),
         "client" => Some(SummaryBy::Client),
         "node" => Some(SummaryBy::Node),
         "opcode" => Some(SummaryBy::Opcode),

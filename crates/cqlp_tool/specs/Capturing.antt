@@ -94,6 +94,7 @@ filter_of asked =
 abbrev pub summary_by : options.SummaryBy → SummaryBy
 summary_by (asked_by.Statement false) = by.Statement naming.Fingerprint
 summary_by (asked_by.Statement true) = by.Statement naming.Literal
+summary_by asked_by.Table = by.Table
 summary_by asked_by.Client = by.Attribute attribute.Client
 summary_by asked_by.Node = by.Attribute attribute.Node
 summary_by asked_by.Opcode = by.Attribute attribute.Opcode

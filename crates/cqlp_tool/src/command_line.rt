@@ -381,6 +381,7 @@ fn summary_by(asked: AskedBy) -> SummaryBy
     match asked {
         AskedBy::Statement { literal: false } => SummaryBy::Statement(Naming::Fingerprint),
         AskedBy::Statement { literal: true } => SummaryBy::Statement(Naming::Literal),
+        AskedBy::Table => SummaryBy::Table,
         AskedBy::Client => SummaryBy::Attribute(Attribute::Client),
         AskedBy::Node => SummaryBy::Attribute(Attribute::Node),
         AskedBy::Opcode => SummaryBy::Attribute(Attribute::Opcode),

@@ -243,8 +243,9 @@ fn changed_captures() {
         assert_eq!((summary.0, &summary.2), (lines.0, &lines.2));
         let (counted, unanswered) = (sum_of(&summary, 2), sum_of(&summary, 4));
         assert_eq!(counted - unanswered, lines.1.lines().filter(|line| line.ends_with(" ms")).count());
-        let attribute = numbers.one_of(&[Attribute::Client, Attribute::Node, Attribute::Opcode, Attribute::Error]);
-        let by = exchanges(&file, most, ports, ExchangeFilter::ALL, ExchangeForm::Summary(SummaryBy::Attribute(attribute)));
+        let attribute = SummaryBy::Attribute(numbers.one_of(&[Attribute::Client, Attribute::Node, Attribute::Opcode, Attribute::Error]));
+        let by = numbers.one_of(&[SummaryBy::Table, attribute]);
+        let by = exchanges(&file, most, ports, ExchangeFilter::ALL, ExchangeForm::Summary(by));
         assert_eq!((by.0, &by.2), (lines.0, &lines.2));
         (2..=6).for_each(|column| assert_eq!(sum_of(&by, column), sum_of(&summary, column)));
         assert_eq!(events(&file, most, ports), events(&file, usize::MAX, ports));

@@ -7,6 +7,7 @@ mod connections;
 mod exchanges;
 mod facts;
 mod summaries;
+mod tables;
 
 use crate::cqlp_capture::{CaptureEvent, CaptureLimits, CaptureReader, CaptureStep};
 use crate::cqlp_tcp_connections::ConnectionLimits;

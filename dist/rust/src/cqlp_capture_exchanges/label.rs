@@ -38,6 +38,21 @@ impl Label {
         self.bytes[self.len..end].copy_from_slice(bytes);
         self.len = end;
     }
+
+    /// Takes a byte, if there is room for it.
+    pub(crate) fn push(&mut self, byte: u8) {
+        if self.len < ROOM {
+            self.bytes[self.len] = byte;
+            self.len += 1;
+        }
+    }
+
+    /// Lets go of what was taken.
+    pub(crate) fn clear(&mut self) {
+        self.len = 0;
+        self.failures = 0;
+        self.writes = 0;
+    }
 }
 
 impl Target for Label {

@@ -30,6 +30,7 @@ mod summary_by;
 mod summary_objects;
 mod sums;
 mod table;
+mod table_name;
 
 pub(crate) use capturing::{write_exchanges};
 pub use exchanges::Exchanges;

@@ -15,6 +15,7 @@ use crate::cqlp_capture_exchanges::report::Report;
 use crate::cqlp_capture_exchanges::span::{Span, took};
 use crate::cqlp_capture_exchanges::statement::{Statement, statement_of};
 use crate::cqlp_capture_exchanges::summary_by::{Attribute, SummaryBy};
+use crate::cqlp_capture_exchanges::table_name::table_name;
 use crate::cqlp_capture_summary::{Occurrence, Summary};
 use crate::cqlp_note::Opcode;
 use crate::cqlp_observer::{Kept, Message, Paired};
@@ -110,9 +111,33 @@ fn note_by<A: Allocator, B: Allocator>(
 {
     match by {
         SummaryBy::Statement(naming) => note_request(summary, naming, known, request, outcome),
+        SummaryBy::Table => note_table(summary, known, request, outcome),
         SummaryBy::Attribute(attribute) => {
             note_attribute(summary, attribute, connection, request, outcome);
         }
+    }
+}
+
+/// Counts a request under the table that its statement names, or under its opcode.
+fn note_table<A: Allocator, B: Allocator>(
+    summary: &mut Summary<A>,
+    known: &[Preparation<B>],
+    request: &Message<Kept<B>>,
+    outcome: &Outcome,
+)
+{
+    let own = statement_of(&request.frame.header, request.kept.front());
+    match table_of(named(known, own)) {
+        Some(name) => note_as(summary, Naming::Literal, name.as_slice(), true, outcome),
+        None => note_opcode(summary, Naming::Literal, request, outcome),
+    }
+}
+
+/// The table that a statement names, if its text is known.
+fn table_of(statement: Option<Statement<'_>>) -> Option<Label> {
+    match statement {
+        Some(Statement::Text { text, is_whole }) => table_name(text.as_bytes(), is_whole),
+        _ => None,
     }
 }
 

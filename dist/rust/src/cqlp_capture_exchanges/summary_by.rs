@@ -8,6 +8,8 @@ use crate::cqlp_capture_exchanges::naming::Naming;
 pub enum SummaryBy {
     /// Their statements.
     Statement(Naming),
+    /// The tables that their statements name.
+    Table,
     /// Another attribute.
     Attribute(Attribute),
 }
@@ -30,6 +32,7 @@ impl SummaryBy {
     pub(crate) fn heading(self) -> &'static str {
         match self {
             SummaryBy::Statement(_) => "statement",
+            SummaryBy::Table => "table",
             SummaryBy::Attribute(attribute) => attribute_heading(attribute),
         }
     }

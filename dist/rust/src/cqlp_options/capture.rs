@@ -90,6 +90,8 @@ pub enum SummaryBy {
         /// Whether statements that differ in their literals alone count each for itself.
         literal: bool,
     },
+    /// The tables that their statements name.
+    Table,
     /// The client's address, at whichever port.
     Client,
     /// The node's address and port.
@@ -126,6 +128,7 @@ fn by_word<'a>(matches: &ArgMatches<'a>) -> &'a str {
 /// What has this name beside statements.
 fn attribute_named(word: &str) -> Option<SummaryBy> {
     match word {
+        "table" => Some(SummaryBy::Table),
         "client" => Some(SummaryBy::Client),
         "node" => Some(SummaryBy::Node),
         "opcode" => Some(SummaryBy::Opcode),

@@ -432,8 +432,8 @@ const CAPTURE: [Word; 23] = [
     Word {
         name: "by",
         form: Form::Text("WHAT"),
-        help: "With --summary, count requests by this: client (its address), node, opcode, error (of the reply) or statement \
-            [default: statement]",
+        help: "With --summary, count requests by this: table (that the statement names), client (its address), node, \
+            opcode, error (of the reply) or statement [default: statement]",
         with: &["summary"],
         without: &["streams", "events", "rows"],
     },
