@@ -40,6 +40,8 @@ captures/made.py ends FILE COMMAND..: runs it with --json over the capture of ad
 
 captures/made.py long FILE [MB]: writes a capture of so many MB of zeros, of which the file system keeps next to nothing, 130 where it is not said.
 
+captures/made.py slower FILE TIMES: writes the capture FILE with packets that come so many times as long after the first.
+
 captures/made.py most COMMAND..: runs it, and prints its status and how many KiB of memory it had at most.
 
 captures/made.py terminal COMMAND..: runs it with a terminal as its standard error, and prints its status and what it wrote there.
@@ -516,6 +518,17 @@ def write_long(path, size="130"):
         file.truncate(at + 16 + 262_144)
 
 
+def slower(file, times):
+    with open(file, "rb") as capture:
+        yield capture.read(24)
+        first = None
+        while head := capture.read(16):
+            seconds, micros, captured, original = struct.unpack("<IIII", head)
+            time = seconds * 1_000_000 + micros
+            first = time if first is None else first
+            yield struct.pack("<IIII", *divmod(first + (time - first) * int(times), 1_000_000), captured, original) + capture.read(captured)
+
+
 def print_terminal(command):
     ours, theirs = pty.openpty()
     program = subprocess.Popen(command, stdout=subprocess.DEVNULL, stderr=theirs)
@@ -557,6 +570,8 @@ if __name__ == "__main__":
         print_other_ends(sys.argv[2], sys.argv[3:])
     elif sys.argv[1] == "long":
         write_long(*sys.argv[2:])
+    elif sys.argv[1] == "slower":
+        sys.stdout.buffer.writelines(slower(*sys.argv[2:]))
     elif sys.argv[1] == "terminal":
         print_terminal(sys.argv[2:])
     elif sys.argv[1] == "interrupted":

@@ -1,8 +1,8 @@
 #!/usr/bin/env python3
 """captures/objects.py FILE COMMAND..: prints what is wrong with the objects (--json) and the summary (--summary) that `cqlp capture` writes of a
 capture, beside its lines, which lines.py reads in another way. Each object has to say what its line says, all the same first moment, and those of a
-connection the same ends; and each statement of the summary what its lines add up to, and with --by each table, client, node, opcode and error, also as
-JSON."""
+connection the same ends; and each statement of the summary what its lines add up to, with --by each table, client, node, opcode and error, also as
+JSON, and with --every each interval."""
 import collections
 import datetime
 import json
@@ -149,20 +149,29 @@ def milliseconds(nanoseconds):
     return f"{nanoseconds // 1_000_000}.{nanoseconds // 1_000 % 1_000:03}"
 
 
+def nothing():
+    """No requests: the counts of a name or an interval, the nanoseconds that each exchange took, and when each request began."""
+    return [0, 0, 0, 0, 0], [], []
+
+
+def count_in(counted, of):
+    numbers, times, begun = counted
+    begun.extend([of["utc"]] if of["utc"] else [])
+    is_unanswered = of["told"] == "unanswered"
+    is_error = not is_unanswered and (of["response"] == "ERROR" or of["took"] is None)
+    sizes = of["request_bytes"] + of.get("response_bytes", 0)
+    for at, more in enumerate([1, is_error, is_unanswered, max(of.get("rows") or 0, 0), sizes]):
+        numbers[at] += more
+    if of["took"] is not None and Decimal(of["took"]) >= 0:
+        times.append(int(Decimal(of["took"]) * 1_000_000_000))
+
+
 def counted_by(what, objects):
-    """The counts of each name of a summary by this, the nanoseconds that each exchange took, and when each request began."""
-    found = collections.defaultdict(lambda: ([0, 0, 0, 0, 0], [], []))
+    """What is counted of each name of a summary by this."""
+    found = collections.defaultdict(nothing)
     for of in objects:
         if of["told"] in ("exchange", "unanswered"):
-            numbers, times, begun = found[name_by(what, of)]
-            begun.extend([of["utc"]] if of["utc"] else [])
-            is_unanswered = of["told"] == "unanswered"
-            is_error = not is_unanswered and (of["response"] == "ERROR" or of["took"] is None)
-            sizes = of["request_bytes"] + of.get("response_bytes", 0)
-            for at, more in enumerate([1, is_error, is_unanswered, max(of.get("rows") or 0, 0), sizes]):
-                numbers[at] += more
-            if of["took"] is not None and Decimal(of["took"]) >= 0:
-                times.append(int(Decimal(of["took"]) * 1_000_000_000))
+            count_in(found[name_by(what, of)], of)
     return found
 
 
@@ -182,12 +191,16 @@ def greatest_beside(time):
     return ((time >> dropped) + 1 << dropped) - 1
 
 
+def percentile(ordered, hundredths):
+    return min(greatest_beside(ordered[-(-len(ordered) * hundredths // 100) - 1]), ordered[-1])
+
+
 def objects_by(what, objects):
     """The objects of a summary by this, by their names."""
     found = {}
     for name, (numbers, times, begun) in counted_by(what, objects).items():
         ordered, buckets = sorted(times), collections.Counter(map(greatest_beside, times))
-        at = lambda hundredths: seconds(min(greatest_beside(ordered[-(-len(ordered) * hundredths // 100) - 1]), ordered[-1])) if ordered else None
+        at = lambda hundredths: seconds(percentile(ordered, hundredths)) if ordered else None
         found[name] = {
             "by": what, "name": name, "name_is_whole": True, **dict(zip(("count", "errors", "unanswered", "rows", "bytes"), numbers)),
             "first": min(begun, default=None), "last": max(begun, default=None), "time": seconds(sum(times)), "missing": 0,
@@ -195,6 +208,36 @@ def objects_by(what, objects):
             "buckets": [[seconds(time), count] for time, count in sorted(buckets.items())],
         }
     return found
+
+
+EVERY = "begin per_s count errors unanswered rows bytes p50_ms p95_ms p99_ms max_ms".split()
+
+
+def over_at(of):
+    """When the last byte of a request's response came, in nanoseconds since 1970, where that is known."""
+    if of["told"] == "unanswered" or of["utc"] is None or of["took"] is None or Decimal(of["took"]) < 0:
+        return None
+    moment = datetime.datetime.fromisoformat(of["utc"][:19] + "+00:00")
+    return int(moment.timestamp()) * 1_000_000_000 + int(of["utc"][20:-1]) + int(Decimal(of["took"]) * 1_000_000_000)
+
+
+def rows_every(width, objects):
+    """The rows of a summary by intervals of so many seconds: a request counts in the one in which it was over, or else in the last one so far."""
+    found = []
+    for of in objects:
+        if of["told"] in ("exchange", "unanswered"):
+            over = over_at(of)
+            number = None if over is None else over // (width * 1_000_000_000)
+            if not found or number is not None and (found[-1][0] is None or number > found[-1][0]):
+                found.append((number, nothing()))
+            count_in(found[-1][1], of)
+    rows = []
+    for number, (numbers, times, _) in found:
+        begin = "-" if number is None else datetime.datetime.fromtimestamp(number * width, datetime.timezone.utc).strftime("%Y-%m-%dT%H:%M:%SZ")
+        rate, ordered = numbers[0] * 1_000 // width, sorted(times)
+        at = [percentile(ordered, hundredths) for hundredths in (50, 95, 99)] + [ordered[-1]] if ordered else []
+        rows.append([begin, f"{rate // 1_000}.{rate % 1_000:03}", *map(str, numbers), *(map(milliseconds, at) if at else "----")])
+    return rows
 
 
 def read_objects(texts):
@@ -235,6 +278,10 @@ def main(file, *command):
         counts, said_of_counts = written(command, file, "--summary", "--by", what, "--json")
         if said_of_counts != said or read_objects(counts) != objects_by(what, objects):
             print(f"by {what} as JSON: {counts}\n{objects_by(what, objects)}")
+    for width in (1, 7, 60, 86_400):
+        rows, said_of_rows = written(command, file, "--summary", "--every", str(width))
+        if said_of_rows != said or [row.split() for row in rows] != [EVERY, *rows_every(width, objects)]:
+            print(f"every {width}: {rows}\n{rows_every(width, objects)}")
 
 
 if __name__ == "__main__":

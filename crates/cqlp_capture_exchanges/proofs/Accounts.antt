@@ -31,7 +31,7 @@ known_shown true o text a b e f k = subst (λ z. IsSome z) (sym e) (known_more o
 known_shown false o text a b e f k = subst (λ z. IsSome z) (sym f) k
 
 known_reported : (n : Connection) (t : Report) (a : Account) → IsSome a.output.given → IsSome (with_reported n t a).output.given
-known_reported n t a k = known_shown (shows a.filter a.known a.first n t) a.output.given (text_of a.form a.known a.first n t) _ _ refl refl k
+known_reported n t a k = known_shown (shows a.filter a.known a.first n t) a.output.given (text_of a.form a.known a.first a.summary n t) _ _ refl refl k
 
 -- it is still known what the output was given
 pub still_known : (n : Connection) (ts : List Report) (a : Account) → IsSome a.output.given → IsSome (with_all n ts a).output.given
@@ -113,10 +113,10 @@ hidden_is : {X : Type 0} (d : Bool) (x y : X) → d ≡ false → (if d then x e
 hidden_is true x y e = absurd cc
 hidden_is false x y e = refl
 
-reported_text : (f : ExchangeFilter) (form : ExchangeForm) (first : Option ℕ) (kn : List Preparation) (m : Summary) (s : ExchangeSums) (old new : Output) (n : Connection) (t : Report) (r : Result (Unit {0}) SinkFault) → shows f kn first n t ≡ true → WritesText old (text_of form kn first n t) r new → ReportsOne n t (account f form first kn m s old) r (account f form first kn (noted_in form kn n t m) (with_report t s) new)
+reported_text : (f : ExchangeFilter) (form : ExchangeForm) (first : Option ℕ) (kn : List Preparation) (m : Summary) (s : ExchangeSums) (old new : Output) (n : Connection) (t : Report) (r : Result (Unit {0}) SinkFault) → shows f kn first n t ≡ true → WritesText old (text_of form kn first m n t) r new → ReportsOne n t (account f form first kn m s old) r (account f form first kn (noted_in form kn n t m) (with_report t s) new)
 reported_text f form first kn m s old new n t (Ok u) is writes =
     let m' = noted_in form kn n t m in
-    ap (λ (o : Output). account f form first kn m' (with_report t s) o) writes ∙ sym (shown_is (shows f kn first n t) (account f form first kn m' (with_report t s) (with_text old (text_of form kn first n t))) (account f form first kn m (with_report t s) old) is)
+    ap (λ (o : Output). account f form first kn m' (with_report t s) o) writes ∙ sym (shown_is (shows f kn first n t) (account f form first kn m' (with_report t s) (with_text old (text_of form kn first m n t))) (account f form first kn m (with_report t s) old) is)
 reported_text f form first kn m s old new n t (Err e) is writes = record { is_shown = is; rest = refl; within = writes }
 
 -- a line was passed on, before and after which nothing waits
@@ -124,19 +124,19 @@ wrote : (w v : Written) (text : List ℕ) (r : Result (Unit {0}) SinkFault) → 
 wrote w v text r e g writes known =
     known_text w v w.given v.given w.failures v.failures w.lender text r (λ i. record { given = w.given; failures = w.failures; waiting = e i; lender = w.lender }) refl g writes known
 
-pub reported_shown : (self : Account) (f : ExchangeFilter) (form : ExchangeForm) (first : Option ℕ) (kn : List Preparation) (m m' : Summary) (s s' : ExchangeSums) (w v : Written) (n : Connection) (t : Report) (r : Result (Unit {0}) SinkFault) → account f form first kn m s (output w.given w.failures) ≡ self → s' ≡ with_report t s → m' ≡ noted_in form kn n t m → w.waiting ≡ [] → v.waiting ≡ [] → shows f kn first n t ≡ true → Writes w (text_of form kn first n t) r v → IsSome self.output.given → ReportsOne n t self r (account f form first kn m' s' (output v.given v.failures))
+pub reported_shown : (self : Account) (f : ExchangeFilter) (form : ExchangeForm) (first : Option ℕ) (kn : List Preparation) (m m' : Summary) (s s' : ExchangeSums) (w v : Written) (n : Connection) (t : Report) (r : Result (Unit {0}) SinkFault) → account f form first kn m s (output w.given w.failures) ≡ self → s' ≡ with_report t s → m' ≡ noted_in form kn n t m → w.waiting ≡ [] → v.waiting ≡ [] → shows f kn first n t ≡ true → Writes w (text_of form kn first m n t) r v → IsSome self.output.given → ReportsOne n t self r (account f form first kn m' s' (output v.given v.failures))
 reported_shown self f form first kn m m' s s' w v n t r view sums notes e g is writes known =
     let old = account f form first kn m s (output w.given w.failures) in
     let holds : IsSome w.given → ReportsOne n t old r (account f form first kn m' s' (output v.given v.failures)) =
     λ k. subst (λ (z : ExchangeSums). ReportsOne n t old r (account f form first kn m' z (output v.given v.failures))) (sym sums)
     (subst (λ (y : Summary). ReportsOne n t old r (account f form first kn y (with_report t s) (output v.given v.failures))) (sym notes)
-    (reported_text f form first kn m s (output w.given w.failures) (output v.given v.failures) n t r is (wrote w v (text_of form kn first n t) r e g writes k))) in
+    (reported_text f form first kn m s (output w.given w.failures) (output v.given v.failures) n t r is (wrote w v (text_of form kn first m n t) r e g writes k))) in
     subst (λ (a : Account). IsSome a.output.given → ReportsOne n t a r (account f form first kn m' s' (output v.given v.failures))) view holds known
 
 pub reported_hidden : (self : Account) (f : ExchangeFilter) (form : ExchangeForm) (first : Option ℕ) (kn : List Preparation) (m : Summary) (s s' : ExchangeSums) (o : Output) (n : Connection) (t : Report) → account f form first kn m s o ≡ self → s' ≡ with_report t s → shows f kn first n t ≡ false → account f form first kn m s' o ≡ with_shown n t self
 reported_hidden self f form first kn m s s' o n t view sums is =
     ap (λ (z : ExchangeSums). account f form first kn m z o) sums
-    ∙ sym (hidden_is (shows f kn first n t) (account f form first kn (noted_in form kn n t m) (with_report t s) (with_text o (text_of form kn first n t))) (account f form first kn m (with_report t s) o) is)
+    ∙ sym (hidden_is (shows f kn first n t) (account f form first kn (noted_in form kn n t m) (with_report t s) (with_text o (text_of form kn first m n t))) (account f form first kn m (with_report t s) o) is)
     ∙ ap (with_shown n t) view
 
 -- ---- the end

@@ -75,7 +75,7 @@ abbrev pub with_note : Connection → Report → Account → Account
 with_note n t a = account a.filter a.form a.first a.known (noted_in a.form a.known n t a.summary) a.sums a.output
 
 abbrev pub with_line : Connection → Report → Account → Account
-with_line n t a = if shows a.filter a.known a.first n t then with_output (with_text a.output (text_of a.form a.known a.first n t)) (with_note n t a) else a
+with_line n t a = if shows a.filter a.known a.first n t then with_output (with_text a.output (text_of a.form a.known a.first a.summary n t)) (with_note n t a) else a
 
 abbrev pub with_shown : Connection → Report → Account → Account
 with_shown n t a = with_line n t (with_count t a)
@@ -98,7 +98,7 @@ with_all n (t ∷ ts) a = with_all n ts (with_reported n t a)
 pub record Stops (n : Connection) (t : Report) (old new : Account) : Type 0 where
   pub is_shown : shows old.filter old.known old.first n t ≡ true
   pub rest : new ≡ with_output new.output (with_note n t (with_count t old))
-  pub within : StopsWithin old.output (text_of old.form old.known old.first n t) new.output
+  pub within : StopsWithin old.output (text_of old.form old.known old.first old.summary n t) new.output
 
 abbrev pub ReportsOne : Connection → Report → Account → Result (Unit {0}) SinkFault → Account → Type 0
 ReportsOne n t old (Ok u) new = new ≡ with_shown n t old

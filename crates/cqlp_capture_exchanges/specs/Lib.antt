@@ -13,6 +13,7 @@ pub mod Ends
 pub mod Members
 pub mod Objects
 pub mod Notings
+pub mod Intervals
 pub mod SummaryObjects
 pub mod Forms
 pub mod Accounts

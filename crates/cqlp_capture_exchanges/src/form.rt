@@ -16,6 +16,8 @@ pub enum ExchangeForm {
     Summary(SummaryBy),
     /// Likewise a JSON object in a line for each name.
     SummaryJson(SummaryBy),
+    /// A line for each interval of so many seconds, at least one, as soon as it is over: how many requests were over in it, and how long they took.
+    Intervals(u32),
 }
 
 impl ExchangeForm {
@@ -28,6 +30,7 @@ impl ExchangeForm {
             ExchangeForm::Json => 0,
             ExchangeForm::Summary(_) => 256,
             ExchangeForm::SummaryJson(_) => 256,
+            ExchangeForm::Intervals(_) => 0,
         }
     }
 }

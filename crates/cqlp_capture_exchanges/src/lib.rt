@@ -9,6 +9,7 @@ mod end;
 mod exchanges;
 mod filter;
 mod form;
+mod intervals;
 mod label;
 pub mod laws;
 mod lines;

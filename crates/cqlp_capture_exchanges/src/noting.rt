@@ -14,6 +14,7 @@ use crate::batch_name::{MOST, batch_name};
 use crate::connection::Connection;
 use crate::filter::is_failure;
 use crate::form::ExchangeForm;
+use crate::intervals::note_in_interval;
 use crate::label::Label;
 use crate::naming::Naming;
 use crate::outcome::Outcome;
@@ -45,6 +46,7 @@ pub(crate) fn note<A: Allocator, B: Allocator>(
         ExchangeForm::Json => {}
         ExchangeForm::Summary(by) => note_report(summary, by, known, connection, report),
         ExchangeForm::SummaryJson(by) => note_report(summary, by, known, connection, report),
+        ExchangeForm::Intervals(seconds) => note_in_interval(summary, seconds, report),
     }
 }
 
@@ -86,7 +88,10 @@ fn note_paired<A: Allocator, B: Allocator>(
     }
 }
 
-fn answered_by<B: Allocator>(request: &Message<Kept<B>>, response: &Message<Kept<B>>) -> Outcome
+pub(crate) fn answered_by<B: Allocator>(
+    request: &Message<Kept<B>>,
+    response: &Message<Kept<B>>,
+) -> Outcome
     ensures { result ≡ answered_by request.now response.now }
 {
     Outcome {
@@ -100,7 +105,7 @@ fn answered_by<B: Allocator>(request: &Message<Kept<B>>, response: &Message<Kept
     }
 }
 
-fn unanswered<B: Allocator>(request: &Message<Kept<B>>) -> Outcome
+pub(crate) fn unanswered<B: Allocator>(request: &Message<Kept<B>>) -> Outcome
     ensures { result ≡ unanswered request.now }
 {
     Outcome {

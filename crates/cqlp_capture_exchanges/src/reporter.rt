@@ -11,6 +11,7 @@ ghost use Rattle.cqlp_capture_exchanges.specs.Reports.{report_of};
 use crate::connection::Connection;
 use crate::filter::ExchangeFilter;
 use crate::form::ExchangeForm;
+use crate::intervals::{put_if_over, put_interval};
 use crate::lines::put_line;
 use crate::noting::note;
 use crate::object::put_json_line;
@@ -118,6 +119,15 @@ impl<O: Target, A: Allocator> Reporter<O, A> {
             .filter
             .shows(&self.known, self.first, connection, report)
         {
+            let answer = put_report(
+                &mut self.writer,
+                self.form,
+                &self.known,
+                self.first,
+                &self.summary,
+                connection,
+                report,
+            );
             note(
                 &mut self.summary,
                 self.form,
@@ -125,14 +135,7 @@ impl<O: Target, A: Allocator> Reporter<O, A> {
                 connection,
                 report,
             );
-            put_report(
-                &mut self.writer,
-                self.form,
-                &self.known,
-                self.first,
-                connection,
-                report,
-            )
+            answer
         } else {
             Ok(())
         }
@@ -226,18 +229,19 @@ impl<O: Target, A: Allocator> Reporter<O, A> {
     }
 }
 
-/// Takes what is written of a report of this connection, and passes it on.
+/// Takes what is written of a report of this connection, after what is in the summary so far, and passes it on.
 #[tactic(auto, using(crate::proofs::Texts::nothing_taken))]
 fn put_report<W: Target, A: Allocator, B: Allocator>(
     writer: &mut TextWriter<Buffered<W, A>>,
     form: ExchangeForm,
     known: &[Preparation<B>],
     first: Option<u64>,
+    summary: &Summary<A>,
     connection: &Connection,
     report: &Report<B>,
 ) -> Result<(), SinkFault>
     requires { writer.old.waiting ≡ [] }
-    ensures text { Writes writer.old (text_of form known.now first connection.now (report_of report.now)) result writer.new }
+    ensures text { Writes writer.old (text_of form known.now first summary.now connection.now (report_of report.now)) result writer.new }
     ensures passed { writer.new.waiting ≡ [] }
 {
     match form {
@@ -245,6 +249,7 @@ fn put_report<W: Target, A: Allocator, B: Allocator>(
         ExchangeForm::Json => put_json_line(writer, known, first, connection, report),
         ExchangeForm::Summary(_) => Ok(()),
         ExchangeForm::SummaryJson(_) => Ok(()),
+        ExchangeForm::Intervals(seconds) => put_if_over(writer, seconds, summary, report),
     }
 }
 
@@ -264,6 +269,7 @@ fn put_ending<W: Target, A: Allocator>(
         ExchangeForm::Json => Ok(()),
         ExchangeForm::Summary(by) => put_summary(writer, by.heading(), summary),
         ExchangeForm::SummaryJson(by) => put_objects(writer, by.heading(), summary),
+        ExchangeForm::Intervals(seconds) => put_interval(writer, seconds, summary),
     }
 }
 

@@ -3,6 +3,7 @@ mod Apart
 mod Bounds
 mod Entries
 mod Heaviest
+mod InIntervals
 mod Lightest
 pub mod Lists
 mod Literals

@@ -11,7 +11,7 @@ use Rattle.std.specs.Str.Lossy.{utf8_valid_len}
 use Rattle.cqlp_grammar.specs.declared.sink.SinkFault.{SinkFault}
 use Rattle.cqlp_text.specs.Written.{Written, BreaksOff, Receives, Writes}
 use Rattle.cqlp_text.proofs.Writing.{Progress, progress_goes_on, progress_last, progress_stops}
-use Rattle.cqlp_capture_summary.specs.Shown.{escape, is_hidden, is_plain, shown, shown_text}
+use Rattle.cqlp_capture_summary.specs.Shown.{escape, is_plain, shown, shown_text}
 
 -- one part after the other, which is another way of writing what is due
 

@@ -5,6 +5,7 @@ use Rattle.cqlp_capture_summary.specs.Buckets.{bucket_of, greatest_in}
 use Rattle.cqlp_capture_summary.specs.Counts.{Request, Tally}
 use Rattle.cqlp_capture_summary.specs.Fingerprints.{read_from}
 use Rattle.cqlp_capture_summary.specs.Heaviest.{tallied_all}
+use Rattle.cqlp_capture_summary.specs.Intervals.{tallies_from}
 use Rattle.cqlp_capture_summary.specs.Merging.{merged}
 use Rattle.cqlp_capture_summary.specs.Names.{Name}
 use Rattle.cqlp_capture_summary.specs.Order.{rank_of, tally_at}
@@ -69,6 +70,17 @@ FirstComesFirst =
 -- each percentile.
 abbrev pub MergeCountsBoth : Type 0
 MergeCountsBoth = (xs ys : List Request) → merged (tallied_all ys none_counted) (tallied_all xs none_counted) ≡ tallied_all (xs ++ ys) none_counted
+
+-- ---- intervals
+
+abbrev pub merged_all : List Tally → Tally
+merged_all [] = none_counted
+merged_all (t ∷ ts) = merged (merged_all ts) t
+
+-- What is counted of all intervals together is what is counted of all requests: each counts in one interval.
+abbrev pub CountsEachInOneInterval : Type 0
+CountsEachInOneInterval =
+    (seconds : ℕ) (rs : List Request) → merged_all (tallies_from seconds none_counted rs) ≡ tallied_all rs none_counted
 
 -- ---- fingerprints
 

@@ -3,6 +3,7 @@ pub mod Columns
 pub mod Counts
 pub mod Fingerprints
 pub mod Heaviest
+pub mod Intervals
 pub mod Laws
 pub mod Lines
 pub mod Merging

@@ -30,11 +30,13 @@ text_front bytes = take (utf8_valid_len bytes) bytes
 abbrev pub name_text : Name → List ℕ
 name_text n = joined (codes " " ∷ shown_text (text_front n.bytes) ∷ more n.is_whole ∷ codes "\n" ∷ [])
 
-abbrev pub counts_text : Figures → List ℕ
-counts_text f =
+abbrev pub request_counts_text : Figures → List ℕ
+request_counts_text f =
     joined
-    (time_column 6 f.time ∷ number_column 8 f.count ∷ number_column 6 f.errors ∷ number_column 10 f.unanswered ∷ number_column 9 f.rows
-    ∷ number_column 11 f.bytes ∷ [])
+    (number_column 8 f.count ∷ number_column 6 f.errors ∷ number_column 10 f.unanswered ∷ number_column 9 f.rows ∷ number_column 11 f.bytes ∷ [])
+
+abbrev pub counts_text : Figures → List ℕ
+counts_text f = joined (time_column 6 f.time ∷ request_counts_text f ∷ [])
 
 -- where no time is known a dash represents each
 abbrev pub times_text : Option Times → List ℕ

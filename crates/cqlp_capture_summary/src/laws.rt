@@ -1,7 +1,7 @@
 //! Laws of summaries. No code needs them.
 
 ghost use Rattle.cqlp_capture_summary.specs.Heaviest.{CountsAllWhereThereIsRoom, KeepsEachOnce, KeepsTheHeaviest, ShowsExactlySince};
-ghost use Rattle.cqlp_capture_summary.specs.Laws.{DearerComesFirst, EachHasItsRank, FirstComesFirst};
+ghost use Rattle.cqlp_capture_summary.specs.Laws.{CountsEachInOneInterval, DearerComesFirst, EachHasItsRank, FirstComesFirst};
 ghost use Rattle.cqlp_capture_summary.specs.Laws.{LiesInItsBucket, MergeCountsBoth, OneAnswerOfNew, OneAnswerOfNote, ReportsTimeAtRank, TextsAreAlike};
 
 /// Where memory is granted `Summary::new` has one answer, and so has `note`.
@@ -45,6 +45,11 @@ pub fn counts_all_where_there_is_room()
 /// What is counted of two captures together, from what is counted of each, is what is counted of the one behind the other.
 pub fn merge_counts_both()
     ensures { MergeCountsBoth }
+{}
+
+/// Each request is counted in one interval: what is counted of all of them together is what is counted of all requests.
+pub fn counts_each_in_one_interval()
+    ensures { CountsEachInOneInterval }
 {}
 
 /// Statements that differ in a text between quotes have the same fingerprint.

@@ -5,6 +5,7 @@ mod buckets;
 mod class;
 mod columns;
 mod fingerprint;
+mod intervals;
 pub mod laws;
 mod lines;
 mod mode;

@@ -3,7 +3,7 @@
 ghost use Rattle.std.specs.Prelude.{◌≡◌, ◌<◌, length};
 ghost use Rattle.cqlp_text.specs.Written.{Writes};
 ghost use Rattle.cqlp_capture_summary.specs.Lines.{counts_text, figures_line, header, known_and_others, line_at, line_if, lines, lines_of_rank, missing_text};
-ghost use Rattle.cqlp_capture_summary.specs.Lines.{more, name_text, others_line, some_missing_text, text_front, time_with, times_text};
+ghost use Rattle.cqlp_capture_summary.specs.Lines.{more, name_text, others_line, request_counts_text, some_missing_text, text_front, time_with, times_text};
 ghost use Rattle.cqlp_capture_summary.specs.Names.{name};
 ghost use Rattle.cqlp_capture_summary.specs.Order.{AreRanks};
 
@@ -185,6 +185,16 @@ fn put_counts<P: Pen>(writer: &mut TextWriter<P>, figures: &Figures) -> Result<(
     ensures { Writes writer.old (counts_text figures.now) result writer.new }
 {
     put_time_column(writer, 6, figures.time)?;
+    put_request_counts(writer, figures)
+}
+
+/// Takes how many requests there were, and what came of them.
+pub(crate) fn put_request_counts<P: Pen>(
+    writer: &mut TextWriter<P>,
+    figures: &Figures,
+) -> Result<(), SinkFault>
+    ensures { Writes writer.old (request_counts_text figures.now) result writer.new }
+{
     put_number_column(writer, 8, figures.count)?;
     put_number_column(writer, 6, figures.errors)?;
     put_number_column(writer, 10, figures.unanswered)?;
@@ -192,7 +202,10 @@ fn put_counts<P: Pen>(writer: &mut TextWriter<P>, figures: &Figures) -> Result<(
     put_number_column(writer, 11, figures.bytes)
 }
 
-fn put_times<P: Pen>(writer: &mut TextWriter<P>, times: Option<Times>) -> Result<(), SinkFault>
+pub(crate) fn put_times<P: Pen>(
+    writer: &mut TextWriter<P>,
+    times: Option<Times>,
+) -> Result<(), SinkFault>
     ensures { Writes writer.old (times_text times) result writer.new }
 {
     match times {

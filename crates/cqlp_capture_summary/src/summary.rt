@@ -7,6 +7,7 @@ ghost use Rattle.cqlp_capture_summary.specs.Lines.{summary_text};
 ghost use Rattle.cqlp_capture_summary.specs.Names.{is_same};
 ghost use Rattle.cqlp_capture_summary.specs.Tallies.{figures_of, none_counted};
 
+use crate::intervals::{add_in_interval, is_over, put_interval};
 use crate::lines::put_summary;
 use crate::name::Name;
 use crate::occurrence::Occurrence;
@@ -64,6 +65,7 @@ impl<A: Allocator> Model for Summary<A> {
 
 impl<A: Allocator> Summary<A> {
     ghost use Rattle.cqlp_capture_summary.specs.Counts.{entry_of, request_of};
+    ghost use Rattle.cqlp_capture_summary.specs.Intervals.{interval_text, is_over, noted_in_interval};
     ghost use Rattle.cqlp_capture_summary.specs.Named.{noted_by_fingerprint};
     ghost use Rattle.cqlp_capture_summary.specs.Rows.{IsRowAt};
     ghost use Rattle.cqlp_capture_summary.specs.Summaries.{new_place, new_summary, noted, noted_request, place_of, taken_in};
@@ -209,6 +211,43 @@ impl<A: Allocator> Summary<A> {
         self.others[0].merge(&self.tallies[at]);
         self.tallies[at].clear();
         self.names[at] = name;
+    }
+
+    /// Whether the interval of so many seconds in which the others are counted is over, since this was over later; it is where none of them is counted.
+    pub fn is_over(&self, seconds: u32, at: Option<u64>) -> bool
+        ensures { result ≡ is_over seconds at self.now.others }
+    {
+        is_over(seconds, at, &self.others[0])
+    }
+
+    /// Counts a request among the others, which was over at this time. Those of an interval that is over are not counted any more.
+    pub fn note_in_interval(
+        &mut self,
+        seconds: u32,
+        occurrence: &Occurrence<'_>,
+        is_answered: bool,
+        at: Option<u64>,
+    )
+        ensures { self.new ≡ noted_in_interval seconds (request_of occurrence.now is_answered at) self.old }
+    {
+        add_in_interval(
+            &mut self.others[0],
+            seconds,
+            occurrence,
+            is_answered,
+            at,
+        );
+    }
+
+    /// Writes the line of the interval of so many seconds in which the others are counted, or the line above all of them where none is counted.
+    pub fn put_interval<P: Pen>(
+        &self,
+        writer: &mut TextWriter<P>,
+        seconds: u32,
+    ) -> Result<(), SinkFault>
+        ensures { Writes writer.old (interval_text seconds self.now.others) result writer.new }
+    {
+        put_interval(writer, seconds, &self.others[0])
     }
 
     /// How many statements are in the table.

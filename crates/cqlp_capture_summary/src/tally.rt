@@ -122,6 +122,13 @@ impl Tally {
         self.count
     }
 
+    /// The last time that was said.
+    pub(crate) fn last(&self) -> Option<u64>
+        ensures { result ≡ self.now.last }
+    {
+        self.last
+    }
+
     /// Counts one time that it was asked for.
     pub(crate) fn add(&mut self, occurrence: &Occurrence<'_>)
         ensures { self.new ≡ tallied (entry_of occurrence.now) self.old }

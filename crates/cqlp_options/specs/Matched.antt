@@ -148,10 +148,16 @@ is_literal b = false
 abbrev pub IsSummaryBy : List Row → SummaryBy → Type 0
 IsSummaryBy rows b = (by_word rows ≡ by_name b) × IsFlag (codes "literal") rows (is_literal b)
 
+-- a summary by a word, and not by intervals
+abbrev pub IsSummary : (is_json : Bool) → List Row → SummaryBy → Type 0
+IsSummary is_json rows b =
+    IsFlag (codes "summary") rows true × IsNumber 32 (codes "every") rows None × IsFlag (codes "json") rows is_json × IsSummaryBy rows b
+
 -- each request, or a summary of them, as lines or as JSON
 abbrev pub IsExchangesForm : List Row → ExchangesAs → Type 0
-IsExchangesForm rows (exchanges_as.Summary b) = IsFlag (codes "summary") rows true × IsFlag (codes "json") rows false × IsSummaryBy rows b
-IsExchangesForm rows (exchanges_as.SummaryJson b) = IsFlag (codes "summary") rows true × IsFlag (codes "json") rows true × IsSummaryBy rows b
+IsExchangesForm rows (exchanges_as.Summary b) = IsSummary false rows b
+IsExchangesForm rows (exchanges_as.SummaryJson b) = IsSummary true rows b
+IsExchangesForm rows (exchanges_as.Intervals n) = IsFlag (codes "summary") rows true × IsNumber 32 (codes "every") rows (Some n)
 IsExchangesForm rows exchanges_as.Json = IsFlag (codes "summary") rows false × IsFlag (codes "json") rows true
 IsExchangesForm rows exchanges_as.Lines = IsFlag (codes "summary") rows false × IsFlag (codes "json") rows false
 

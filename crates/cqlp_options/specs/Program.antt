@@ -72,6 +72,7 @@ capture =
     ∷ bound (flag (codes "summary"))
     ∷ bound (named (codes "by"))
     ∷ bound (flag (codes "literal"))
+    ∷ bound (in_range 1 86400 (named (codes "every")))
     ∷ bound (flag (codes "events"))
     ∷ bound (flag (codes "rows"))
     ∷ in_range 1 1048576 (named (codes "connections"))

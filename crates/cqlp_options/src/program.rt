@@ -332,6 +332,12 @@ const PORTS: LimitRange = LimitRange {
     greatest: 65_535,
 };
 
+/// The seconds that an interval may have: up to a day.
+const SECONDS: LimitRange = LimitRange {
+    least: 1,
+    greatest: 86_400,
+};
+
 /// All numbers of 32 bits.
 const ALL: LimitRange = LimitRange {
     least: 0,
@@ -340,7 +346,7 @@ const ALL: LimitRange = LimitRange {
 
 /// What `capture` takes. The help of a limit has its range and what the number is where it is not given, and docs/check compares both
 /// with `CaptureLimits`.
-const CAPTURE: [Word; 23] = [
+const CAPTURE: [Word; 24] = [
     Word {
         name: "file",
         form: Form::Files,
@@ -466,6 +472,14 @@ const CAPTURE: [Word; 23] = [
         help: "With --summary, count statements that differ in their literals each for itself",
         with: &["summary"],
         without: &[],
+    },
+    Word {
+        name: "every",
+        form: Form::Number("SECONDS", SECONDS),
+        help: "With --summary, a line for each interval of so many seconds, from 1 to 86400, as soon as it is over: how many requests \
+            were over in it and how long they took; not with --by, --literal or --json",
+        with: &["summary"],
+        without: &["by", "literal", "json", "streams", "events", "rows"],
     },
     Word {
         name: "events",

@@ -106,6 +106,7 @@ form_of asked_as.Lines = form.Lines
 form_of asked_as.Json = form.Json
 form_of (asked_as.Summary b) = form.Summary (summary_by b)
 form_of (asked_as.SummaryJson b) = form.SummaryJson (summary_by b)
+form_of (asked_as.Intervals seconds) = form.Intervals seconds
 
 -- The input's exchanges that were asked for went to the output, and how it ended was reported with its status, after so many reads.
 abbrev pub PrintsExchanges : Buffering → StreamsLimits → ExchangeLimits → ExchangeOptions → (ports : List ℕ) → (before : Streams) → (status : ℕ) → (after : Streams) → Type 0

@@ -247,7 +247,9 @@ fn changed_captures() {
         let by = numbers.one_of(&[SummaryBy::Table, attribute]);
         let by = exchanges(&file, most, ports, ExchangeFilter::ALL, ExchangeForm::Summary(by));
         assert_eq!((by.0, &by.2), (lines.0, &lines.2));
-        (2..=6).for_each(|column| assert_eq!(sum_of(&by, column), sum_of(&summary, column)));
+        let every = exchanges(&file, most, ports, ExchangeFilter::ALL, ExchangeForm::Intervals(numbers.one_of(&[0, 1, 60, 86_400])));
+        assert_eq!((every.0, &every.2), (lines.0, &lines.2));
+        (2..=6).for_each(|column| assert_eq!([&by, &every].map(|other| sum_of(other, column)), [sum_of(&summary, column); 2]));
         assert_eq!(events(&file, most, ports), events(&file, usize::MAX, ports));
         let connection = 1 + numbers.below(20) as u64;
         assert_eq!(rows(&file, most, ports, connection), rows(&file, usize::MAX, ports, connection));

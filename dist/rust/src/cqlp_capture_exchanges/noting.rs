@@ -6,6 +6,7 @@ use crate::cqlp_capture_exchanges::batch_name::{MOST, batch_name};
 use crate::cqlp_capture_exchanges::connection::Connection;
 use crate::cqlp_capture_exchanges::filter::is_failure;
 use crate::cqlp_capture_exchanges::form::ExchangeForm;
+use crate::cqlp_capture_exchanges::intervals::note_in_interval;
 use crate::cqlp_capture_exchanges::label::Label;
 use crate::cqlp_capture_exchanges::naming::Naming;
 use crate::cqlp_capture_exchanges::outcome::Outcome;
@@ -36,6 +37,7 @@ pub(crate) fn note<A: Allocator, B: Allocator>(
         ExchangeForm::Json => {}
         ExchangeForm::Summary(by) => note_report(summary, by, known, connection, report),
         ExchangeForm::SummaryJson(by) => note_report(summary, by, known, connection, report),
+        ExchangeForm::Intervals(seconds) => note_in_interval(summary, seconds, report),
     }
 }
 
@@ -75,7 +77,10 @@ fn note_paired<A: Allocator, B: Allocator>(
     }
 }
 
-fn answered_by<B: Allocator>(request: &Message<Kept<B>>, response: &Message<Kept<B>>) -> Outcome {
+pub(crate) fn answered_by<B: Allocator>(
+    request: &Message<Kept<B>>,
+    response: &Message<Kept<B>>,
+) -> Outcome {
     Outcome {
         is_answered: true,
         reply: Some(reply_of(&response.frame.header, response.kept.front())),
@@ -87,7 +92,7 @@ fn answered_by<B: Allocator>(request: &Message<Kept<B>>, response: &Message<Kept
     }
 }
 
-fn unanswered<B: Allocator>(request: &Message<Kept<B>>) -> Outcome {
+pub(crate) fn unanswered<B: Allocator>(request: &Message<Kept<B>>) -> Outcome {
     Outcome {
         is_answered: false,
         reply: None,

@@ -5,6 +5,7 @@ use crate::kit_host::prelude::{Vec};
 use crate::cqlp_capture_exchanges::connection::Connection;
 use crate::cqlp_capture_exchanges::filter::ExchangeFilter;
 use crate::cqlp_capture_exchanges::form::ExchangeForm;
+use crate::cqlp_capture_exchanges::intervals::{put_if_over, put_interval};
 use crate::cqlp_capture_exchanges::lines::put_line;
 use crate::cqlp_capture_exchanges::noting::note;
 use crate::cqlp_capture_exchanges::object::put_json_line;
@@ -80,6 +81,15 @@ impl<O: Target, A: Allocator> Reporter<O, A> {
             .filter
             .shows(&self.known, self.first, connection, report)
         {
+            let answer = put_report(
+                &mut self.writer,
+                self.form,
+                &self.known,
+                self.first,
+                &self.summary,
+                connection,
+                report,
+            );
             note(
                 &mut self.summary,
                 self.form,
@@ -87,14 +97,7 @@ impl<O: Target, A: Allocator> Reporter<O, A> {
                 connection,
                 report,
             );
-            put_report(
-                &mut self.writer,
-                self.form,
-                &self.known,
-                self.first,
-                connection,
-                report,
-            )
+            answer
         } else {
             Ok(())
         }
@@ -175,12 +178,13 @@ impl<O: Target, A: Allocator> Reporter<O, A> {
     }
 }
 
-/// Takes what is written of a report of this connection, and passes it on.
+/// Takes what is written of a report of this connection, after what is in the summary so far, and passes it on.
 fn put_report<W: Target, A: Allocator, B: Allocator>(
     writer: &mut TextWriter<Buffered<W, A>>,
     form: ExchangeForm,
     known: &[Preparation<B>],
     first: Option<u64>,
+    summary: &Summary<A>,
     connection: &Connection,
     report: &Report<B>,
 ) -> Result<(), SinkFault> {
@@ -189,6 +193,7 @@ fn put_report<W: Target, A: Allocator, B: Allocator>(
         ExchangeForm::Json => put_json_line(writer, known, first, connection, report),
         ExchangeForm::Summary(_) => Ok(()),
         ExchangeForm::SummaryJson(_) => Ok(()),
+        ExchangeForm::Intervals(seconds) => put_if_over(writer, seconds, summary, report),
     }
 }
 
@@ -203,6 +208,7 @@ fn put_ending<W: Target, A: Allocator>(
         ExchangeForm::Json => Ok(()),
         ExchangeForm::Summary(by) => put_summary(writer, by.heading(), summary),
         ExchangeForm::SummaryJson(by) => put_objects(writer, by.heading(), summary),
+        ExchangeForm::Intervals(seconds) => put_interval(writer, seconds, summary),
     }
 }
 

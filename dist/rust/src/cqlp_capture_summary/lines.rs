@@ -145,6 +145,14 @@ fn put_line<P: Pen>(
 
 fn put_counts<P: Pen>(writer: &mut TextWriter<P>, figures: &Figures) -> Result<(), SinkFault> {
     put_time_column(writer, 6, figures.time)?;
+    put_request_counts(writer, figures)
+}
+
+/// Takes how many requests there were, and what came of them.
+pub(crate) fn put_request_counts<P: Pen>(
+    writer: &mut TextWriter<P>,
+    figures: &Figures,
+) -> Result<(), SinkFault> {
     put_number_column(writer, 8, figures.count)?;
     put_number_column(writer, 6, figures.errors)?;
     put_number_column(writer, 10, figures.unanswered)?;
@@ -152,7 +160,10 @@ fn put_counts<P: Pen>(writer: &mut TextWriter<P>, figures: &Figures) -> Result<(
     put_number_column(writer, 11, figures.bytes)
 }
 
-fn put_times<P: Pen>(writer: &mut TextWriter<P>, times: Option<Times>) -> Result<(), SinkFault> {
+pub(crate) fn put_times<P: Pen>(
+    writer: &mut TextWriter<P>,
+    times: Option<Times>,
+) -> Result<(), SinkFault> {
     match times {
         Some(times) => put_known_times(writer, times),
         None => put_no_times(writer),

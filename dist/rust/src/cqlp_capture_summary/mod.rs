@@ -5,6 +5,7 @@ mod buckets;
 mod class;
 mod columns;
 mod fingerprint;
+mod intervals;
 mod lines;
 mod mode;
 mod name;

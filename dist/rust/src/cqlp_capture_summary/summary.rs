@@ -2,6 +2,7 @@
 //! The statements of a capture.
 
 use crate::kit_host::prelude::{AllocGlobal, Clone, ToCopy, Vec};
+use crate::cqlp_capture_summary::intervals::{add_in_interval, is_over, put_interval};
 use crate::cqlp_capture_summary::lines::put_summary;
 use crate::cqlp_capture_summary::name::Name;
 use crate::cqlp_capture_summary::occurrence::Occurrence;
@@ -150,6 +151,38 @@ impl<A: Allocator> Summary<A> {
         self.others[0].merge(&self.tallies[at]);
         self.tallies[at].clear();
         self.names[at] = name;
+    }
+
+    /// Whether the interval of so many seconds in which the others are counted is over, since this was over later; it is where none of them is counted.
+    pub fn is_over(&self, seconds: u32, at: Option<u64>) -> bool {
+        is_over(seconds, at, &self.others[0])
+    }
+
+    /// Counts a request among the others, which was over at this time. Those of an interval that is over are not counted any more.
+    pub fn note_in_interval(
+        &mut self,
+        seconds: u32,
+        occurrence: &Occurrence<'_>,
+        is_answered: bool,
+        at: Option<u64>,
+    )
+    {
+        add_in_interval(
+            &mut self.others[0],
+            seconds,
+            occurrence,
+            is_answered,
+            at,
+        );
+    }
+
+    /// Writes the line of the interval of so many seconds in which the others are counted, or the line above all of them where none is counted.
+    pub fn put_interval<P: Pen>(
+        &self,
+        writer: &mut TextWriter<P>,
+        seconds: u32,
+    ) -> Result<(), SinkFault> {
+        put_interval(writer, seconds, &self.others[0])
     }
 
     /// How many statements are in the table.

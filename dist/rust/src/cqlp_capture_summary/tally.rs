@@ -91,6 +91,11 @@ impl Tally {
         self.count
     }
 
+    /// The last time that was said.
+    pub(crate) fn last(&self) -> Option<u64> {
+        self.last
+    }
+
     /// Counts one time that it was asked for.
     pub(crate) fn add(&mut self, occurrence: &Occurrence<'_>) {
         self.count = self.count.saturating_add(1);

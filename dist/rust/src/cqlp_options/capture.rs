@@ -63,12 +63,17 @@ pub enum ExchangesAs {
     Summary(SummaryBy),
     /// Likewise a JSON object in a line.
     SummaryJson(SummaryBy),
+    /// A line for each interval of so many seconds.
+    Intervals(u32),
 }
 
 impl ExchangesAs {
     fn matched(matches: &ArgMatches<'_>) -> Result<ExchangesAs, BadValue> {
         let is_json = flag(matches, "json");
         if flag(matches, "summary") {
+            if let Some(seconds) = number(matches, "every") {
+                return Ok(ExchangesAs::Intervals(seconds));
+            }
             let by = SummaryBy::matched(matches)?;
             if is_json {
                 return Ok(ExchangesAs::SummaryJson(by));

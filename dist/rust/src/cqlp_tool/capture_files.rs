@@ -10,7 +10,9 @@ use crate::kit_host::rt::Files;
 pub(crate) struct CaptureFiles<'a, R: Files> {
     rt: &'a R,
     input: OfStd<R::File>,
+    /// The paths of the files after the first, of which so many were opened.
     more: &'a [&'a str],
+    opened: usize,
 }
 
 impl<'a, R: Files> CaptureFiles<'a, R> {
@@ -20,6 +22,7 @@ impl<'a, R: Files> CaptureFiles<'a, R> {
             rt,
             input: OfStd::new(first),
             more,
+            opened: 0,
         }
     }
 }
@@ -32,11 +35,12 @@ impl<R: Files> Source for CaptureFiles<'_, R> {
 
 impl<R: Files> CaptureInput for CaptureFiles<'_, R> {
     fn next_file(&mut self) -> Result<bool, IoFault> {
-        let Some((path, more)) = self.more.split_first() else {
+        if self.opened >= self.more.len() {
             return Ok(false);
-        };
-        self.more = more;
-        match File::open(self.rt, *path) {
+        }
+        let path = self.more[self.opened];
+        self.opened += 1;
+        match File::open(self.rt, path) {
             Ok(file) => {
                 self.input.inner = file;
                 Ok(true)

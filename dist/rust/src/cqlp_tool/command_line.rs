@@ -300,6 +300,7 @@ fn form_of(asked: ExchangesAs) -> ExchangeForm {
         ExchangesAs::Json => ExchangeForm::Json,
         ExchangesAs::Summary(by) => ExchangeForm::Summary(summary_by(by)),
         ExchangesAs::SummaryJson(by) => ExchangeForm::SummaryJson(summary_by(by)),
+        ExchangesAs::Intervals(seconds) => ExchangeForm::Intervals(seconds),
     }
 }
 

@@ -1,0 +1,97 @@
+// Written by dist/erase from crates/cqlp_capture_exchanges/src/intervals.rt.
+//! Requests with what came of them, counted by the interval of time in which they were over.
+
+use crate::cqlp_capture_exchanges::noting::{answered_by, unanswered};
+use crate::cqlp_capture_exchanges::outcome::Outcome;
+use crate::cqlp_capture_exchanges::report::Report;
+use crate::cqlp_capture_summary::{Occurrence, Summary};
+use crate::cqlp_grammar::SinkFault;
+use crate::cqlp_note::Target;
+use crate::cqlp_observer::{Kept, Paired};
+use crate::cqlp_text::{Buffered, TextWriter};
+use crate::kit_std::alloc::Allocator;
+
+/// What came of the request of a report, if it has one.
+fn outcome_in<B: Allocator>(report: &Report<B>) -> Option<Outcome> {
+    match report {
+        Report::Messages { paired, .. } => outcome_of(paired),
+        Report::Unread { .. } => None,
+    }
+}
+
+fn outcome_of<B: Allocator>(paired: &Paired<Kept<B>>) -> Option<Outcome> {
+    match paired {
+        Paired::Exchange { request, response } => Some(answered_by(request, response)),
+        Paired::Unanswered { request } => Some(unanswered(request)),
+        Paired::Unasked { .. } | Paired::Event { .. } => None,
+    }
+}
+
+/// When the last byte of the response came, where it is known how long that took.
+fn over_at(outcome: &Outcome) -> Option<u64> {
+    match (outcome.at, outcome.took) {
+        (Some(at), Some(took)) => Some(at.saturating_add(took)),
+        (Some(_), None) | (None, _) => None,
+    }
+}
+
+/// Counts the request of a report, if it has one, in the interval in which it was over.
+pub(crate) fn note_in_interval<A: Allocator, B: Allocator>(
+    summary: &mut Summary<A>,
+    seconds: u32,
+    report: &Report<B>,
+)
+{
+    match outcome_in(report) {
+        Some(outcome) => note_outcome(summary, seconds, &outcome),
+        None => {}
+    }
+}
+
+fn note_outcome<A: Allocator>(summary: &mut Summary<A>, seconds: u32, outcome: &Outcome) {
+    let occurrence = Occurrence {
+        name: b"",
+        is_whole_name: true,
+        is_error: outcome.is_error,
+        rows: outcome.rows,
+        bytes: outcome.bytes,
+        took: outcome.took,
+    };
+    summary.note_in_interval(seconds, &occurrence, outcome.is_answered, over_at(outcome));
+}
+
+/// Before the request of a report, takes the line of the interval that is over, or that above all lines, and passes it on.
+pub(crate) fn put_if_over<W: Target, A: Allocator, B: Allocator>(
+    writer: &mut TextWriter<Buffered<W, A>>,
+    seconds: u32,
+    summary: &Summary<A>,
+    report: &Report<B>,
+) -> Result<(), SinkFault> {
+    match outcome_in(report) {
+        Some(outcome) => put_before(writer, seconds, summary, &outcome),
+        None => Ok(()),
+    }
+}
+
+fn put_before<W: Target, A: Allocator>(
+    writer: &mut TextWriter<Buffered<W, A>>,
+    seconds: u32,
+    summary: &Summary<A>,
+    outcome: &Outcome,
+) -> Result<(), SinkFault> {
+    if summary.is_over(seconds, over_at(outcome)) {
+        put_interval(writer, seconds, summary)
+    } else {
+        Ok(())
+    }
+}
+
+/// Takes the line of the interval that is counted, or that above all lines where none is, and passes it on.
+pub(crate) fn put_interval<W: Target, A: Allocator>(
+    writer: &mut TextWriter<Buffered<W, A>>,
+    seconds: u32,
+    summary: &Summary<A>,
+) -> Result<(), SinkFault> {
+    summary.put_interval(writer, seconds)?;
+    writer.pass_on()
+}
