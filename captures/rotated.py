@@ -41,7 +41,7 @@ def ran(program, files, *words):
 
 def without_verdict(line):
     """The last line without the bytes of its verdict and the number of files."""
-    return re.sub(r' MoreFiles \d+', '', re.sub(r'^whole \d+', 'whole', line))
+    return re.sub(r' MoreFiles \d+', '', re.sub(r'(?m)^whole \d+', 'whole', line))
 
 
 def compare(what, one, several, more):

@@ -84,6 +84,7 @@ pub fn texts(alloc: Global, words: &[Argument]) -> Result<Vec<&str>, AllocError>
 }
 
 /// Why the command line's words were not read.
+#[derive(Clone, Copy)]
 pub enum NotRead {
     NoMemory,
     /// The word at this place names a file that cannot be opened.
@@ -118,6 +119,7 @@ pub fn redirect(alloc: Global, words: &mut [Argument]) -> Result<(), NotRead> {
 }
 
 /// Files whose names are no text.
+#[derive(Drop)]
 struct RawFiles {
     /// The places of the words that name them.
     places: Vec<usize>,

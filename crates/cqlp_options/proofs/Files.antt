@@ -1,5 +1,5 @@
 -- A capture's files: the first and the others, and whether standard input is one of several.
-use Rattle.std.proofs.Common.{◌≡◌, ◌≢◌, ◌==◌, ◌-◌, ◌≤◌, ℕ, Bool, true, false, not, ◌||◌, List, [], ◌∷◌, IsTrue, codes, length, take, drop, nat_lt, slice_index_or, refl, sym, ap, ◌∙◌, arith}
+use Rattle.std.proofs.Common.{◌≡◌, ◌≢◌, ◌==◌, ◌-◌, ◌≤◌, ℕ, Bool, true, false, not, ◌||◌, List, [], ◌∷◌, IsTrue, codes, length, take, drop, slice_index_or, refl, sym, ap, ◌∙◌, arith}
 use Rattle.std.proofs.lemmas.Bool.{true≢false, false≢true, or_from, or_parts}
 use Rattle.std.proofs.lemmas.List.{take_rest}
 use Rattle.std.proofs.lemmas.List.Elements.{All-nil, All-cons, All-head, All-tail}
@@ -52,12 +52,12 @@ no_texts (x ∷ xs) h =
 
 -- ---- standard input
 
--- where the first is no standard input, it goes by the others
+-- where the first is a file, it goes by the others
 pub behind_a_file : (first : List ℕ) (xs : List (Bor (List ℕ))) (is_other has : Bool)
     → is_other ≡ not (bytes_eq first (codes "-")) → is_other ≡ true → has ≡ list_any (λ x. bytes_eq x.now (codes "-")) xs
     → (IsTrue (not has) → GoesAlone first (texts_of xs)) × (GoesAlone first (texts_of xs) → IsTrue (not has))
-behind_a_file first xs is_other has is yes among =
-    let other : first ≢ codes "-" = differs (codes "-") first (not_is_true (bytes_eq first (codes "-")) (sym is ∙ yes)) in (
+behind_a_file first xs is_other has is is_true among =
+    let other : first ≢ codes "-" = differs (codes "-") first (not_is_true (bytes_eq first (codes "-")) (sym is ∙ is_true)) in (
       λ h. record {
         first_alone = λ e. absurd (other e);
         no_other = none (codes "-") xs (sym among ∙ not_is_true has h);
@@ -65,41 +65,22 @@ behind_a_file first xs is_other has is yes among =
       λ alone. ap not (among ∙ none_met (codes "-") xs alone.no_other),
     )
 
--- where it is, there are no others
+-- where it is standard input, there are no others
 pub before_a_file : (first : List ℕ) (xs : List (Bor (List ℕ))) (is_other is_empty : Bool)
     → is_other ≡ not (bytes_eq first (codes "-")) → is_other ≡ false → is_empty ≡ (length xs == 0) → is_empty ≡ false
     → (IsTrue is_other → GoesAlone first (texts_of xs)) × (GoesAlone first (texts_of xs) → IsTrue is_other)
-before_a_file first xs is_other is_empty is no empty some =
-    let input : first ≡ codes "-" = (bytes_eq-Decides first (codes "-")).0 (not_is_false (bytes_eq first (codes "-")) (sym is ∙ no)) in
+before_a_file first xs is_other is_empty is is_false empty some =
+    let input : first ≡ codes "-" = (bytes_eq-Decides first (codes "-")).0 (not_is_false (bytes_eq first (codes "-")) (sym is ∙ is_false)) in
     let several : xs ≢ [] = λ e. true≢false (sym (ap (λ (ys : List (Bor (List ℕ))). length ys == 0) e) ∙ (sym empty ∙ some)) in
-    (λ h. absurd (true≢false (sym h ∙ no)), λ alone. absurd (several (no_texts xs (alone.first_alone input))))
+    (λ h. absurd (true≢false (sym h ∙ is_false)), λ alone. absurd (several (no_texts xs (alone.first_alone input))))
 
--- ---- whether a file has a path
+-- ---- whether a file behind the first has a path
 
 any_text : (t : List ℕ) (xs : List (Bor (List ℕ))) → list_any (λ x. bytes_eq x.now t) xs ≡ list_any (λ u. bytes_eq u t) (texts_of xs)
 any_text t [] = refl
 any_text t (x ∷ xs) = ap (λ b. bytes_eq x.now t || b) (any_text t xs)
 
-or_none : (b : Bool) → b ≡ (b || false)
-or_none true = refl
-or_none false = refl
-
--- a file alone
-pub one_file : (file path : List ℕ) (b : Bool) → b ≡ bytes_eq file path → b ≡ list_any (λ u. bytes_eq u path) (file ∷ [])
-one_file file path b is = is ∙ or_none (bytes_eq file path)
-
--- the first of several
-pub first_file : (file path : List ℕ) (others : List (List ℕ)) (b : Bool) → b ≡ bytes_eq file path → b ≡ true
-    → true ≡ list_any (λ u. bytes_eq u path) (file ∷ others)
-first_file file path others b is yes = ap (λ c. c || list_any (λ u. bytes_eq u path) others) (sym (sym is ∙ yes))
-
--- another of several
 pub other_file : (file path : List ℕ) (xs : List (Bor (List ℕ))) (b found : Bool) → b ≡ bytes_eq file path → b ≡ false
     → found ≡ list_any (λ x. bytes_eq x.now path) xs → found ≡ list_any (λ u. bytes_eq u path) (file ∷ texts_of xs)
-other_file file path xs b found is no among =
-    among ∙ any_text path xs ∙ ap (λ c. c || list_any (λ u. bytes_eq u path) (texts_of xs)) (sym (sym is ∙ no))
-
--- several files are the first and at least one other
-pub several_files : (file : List ℕ) (xs : List (Bor (List ℕ))) (b : Bool) → b ≡ (length xs == 0) → not b ≡ nat_lt 1 (length (file ∷ texts_of xs))
-several_files file [] b is = ap not is
-several_files file (x ∷ xs) b is = ap not is
+other_file file path xs b found is is_false among =
+    among ∙ any_text path xs ∙ ap (λ c. c || list_any (λ u. bytes_eq u path) (texts_of xs)) (sym (sym is ∙ is_false))

@@ -81,6 +81,7 @@ pub fn texts(alloc: Global, words: &[Argument]) -> Result<Vec<&str>, AllocError>
 }
 
 /// Why the command line's words were not read.
+#[derive(Clone, Copy)]
 pub enum NotRead {
     NoMemory,
     /// The word at this place names a file that cannot be opened.

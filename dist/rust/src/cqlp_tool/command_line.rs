@@ -27,7 +27,7 @@ use crate::cqlp_row_text::TablePlace;
 use crate::cqlp_text::exit_status::{BAD_COMMAND_LINE, DONE, FAULT};
 use crate::cqlp_text::{Ending, PagePlace, cannot_open_line, put_text};
 use crate::kit_std::alloc::Allocator;
-use crate::kit_host::fs::{File, Metadata, OpenFile};
+use crate::kit_host::fs::{self, File, Metadata, OpenFile};
 use std::io;
 use crate::kit_host::net::{Net, TcpListener, TcpStream};
 use crate::kit_host::rt::Files;

@@ -1,0 +1,12 @@
+use Rattle.std.proofs.Common.{ap, ◌∙◌}
+use Rattle.std.specs.List.{list_any}
+use Rattle.std.specs.Str.{bytes_eq}
+use Rattle.cqlp_options.proofs.Files.{other_file}
+use Rattle.cqlp_options.proofs.command_line.CommandLine.has_file.Goals as goal
+
+pub returns-else-eq : goal.returns-else-eq
+returns-else-eq c =
+    let options = c.in-Capture.options in
+    let among = c.contains.ensures.value ∙ ap (list_any (λ x. bytes_eq x.now c.args.path.now)) c.deref.ensures.value in
+    rw c.in-Capture.is (other_file options.file.now c.args.path.now options.more.items c.eq-in-Capture.result c.contains.result
+    c.eq-in-Capture.ensures c.if-eq.false among)
