@@ -1,11 +1,11 @@
 -- Laws of summaries.
-use Rattle.std.specs.Prelude.{◌≡◌, ℕ, ◌-◌, ◌*◌, ◌^◌, ◌<◌, ◌≤◌, ◌==◌, false, nat_le, nat_lt, List, [], ◌∷◌, ◌++◌, Option, Some, None, length}
+use Rattle.std.specs.Prelude.{◌≡◌, ℕ, ◌-◌, ◌*◌, ◌^◌, ◌<◌, ◌≤◌, ◌==◌, false, nat_le, nat_lt, List, [], ◌∷◌, ◌++◌, Option, Some, None, IfSome, IsSomeAnd, ⊤, length}
 use Rattle.std.specs.List.{filter, All}
 use Rattle.cqlp_capture_summary.specs.Buckets.{bucket_of, greatest_in}
 use Rattle.cqlp_capture_summary.specs.Counts.{Request, Tally}
 use Rattle.cqlp_capture_summary.specs.Fingerprints.{read_from}
 use Rattle.cqlp_capture_summary.specs.Heaviest.{tallied_all}
-use Rattle.cqlp_capture_summary.specs.Intervals.{tallies_from}
+use Rattle.cqlp_capture_summary.specs.Intervals.{interval_of, tallies_from}
 use Rattle.cqlp_capture_summary.specs.Merging.{merged}
 use Rattle.cqlp_capture_summary.specs.Names.{Name}
 use Rattle.cqlp_capture_summary.specs.Order.{rank_of, tally_at}
@@ -81,6 +81,18 @@ merged_all (t ∷ ts) = merged (merged_all ts) t
 abbrev pub CountsEachInOneInterval : Type 0
 CountsEachInOneInterval =
     (seconds : ℕ) (rs : List Request) → merged_all (tallies_from seconds none_counted rs) ≡ tallied_all rs none_counted
+
+-- an interval of which the time is known, and one that is later
+abbrev pub IsLater : (seconds : ℕ) → Tally → Tally → Type 0
+IsLater seconds t u = IfSome t.last (λ last. IsSomeAnd u.last (λ next. interval_of seconds last < interval_of seconds next))
+
+abbrev pub Rise : (seconds : ℕ) → List Tally → Type 0
+Rise seconds [] = ⊤
+Rise seconds (t ∷ ts) = All (IsLater seconds t) ts × Rise seconds ts
+
+-- Behind an interval all are later ones, whatever the order of the times: none has two lines.
+abbrev pub IntervalsRise : Type 0
+IntervalsRise = (seconds : ℕ) (rs : List Request) → Rise seconds (tallies_from seconds none_counted rs)
 
 -- ---- fingerprints
 

@@ -14,7 +14,8 @@ use cqlp_grammar::SinkFault;
 use cqlp_text::{Pen, TextWriter};
 
 /// What is above the columns.
-const HEADER: &str = "               begin      per_s    count errors unanswered      rows       bytes   p50_ms   p95_ms   p99_ms    max_ms\n";
+const HEADER: &str =
+    "               begin      per_s    count errors unanswered      rows       bytes   p50_ms   p95_ms   p99_ms    max_ms\n";
 
 /// The number that `TextWriter::put_date` takes for the first of January 1970.
 const EPOCH: u64 = 1 << 31;
@@ -151,11 +152,7 @@ fn put_second<P: Pen>(writer: &mut TextWriter<P>, second: u64) -> Result<(), Sin
 }
 
 /// Takes how many there were in a second, of so many in an interval.
-fn put_rate<P: Pen>(
-    writer: &mut TextWriter<P>,
-    seconds: u32,
-    count: u64,
-) -> Result<(), SinkFault>
+fn put_rate<P: Pen>(writer: &mut TextWriter<P>, seconds: u32, count: u64) -> Result<(), SinkFault>
     ensures { Writes writer.old (rate_column seconds count) result writer.new }
 {
     let width = width_of(seconds);

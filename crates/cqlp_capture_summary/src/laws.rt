@@ -1,7 +1,7 @@
 //! Laws of summaries. No code needs them.
 
 ghost use Rattle.cqlp_capture_summary.specs.Heaviest.{CountsAllWhereThereIsRoom, KeepsEachOnce, KeepsTheHeaviest, ShowsExactlySince};
-ghost use Rattle.cqlp_capture_summary.specs.Laws.{CountsEachInOneInterval, DearerComesFirst, EachHasItsRank, FirstComesFirst};
+ghost use Rattle.cqlp_capture_summary.specs.Laws.{CountsEachInOneInterval, DearerComesFirst, EachHasItsRank, FirstComesFirst, IntervalsRise};
 ghost use Rattle.cqlp_capture_summary.specs.Laws.{LiesInItsBucket, MergeCountsBoth, OneAnswerOfNew, OneAnswerOfNote, ReportsTimeAtRank, TextsAreAlike};
 
 /// Where memory is granted `Summary::new` has one answer, and so has `note`.
@@ -47,9 +47,11 @@ pub fn merge_counts_both()
     ensures { MergeCountsBoth }
 {}
 
-/// Each request is counted in one interval: what is counted of all of them together is what is counted of all requests.
+/// Each request is counted in one interval: what is counted of all of them together is what is counted of all requests. Whatever the order of the times is,
+/// behind an interval there are later ones alone.
 pub fn counts_each_in_one_interval()
-    ensures { CountsEachInOneInterval }
+    ensures once { CountsEachInOneInterval }
+    ensures rise { IntervalsRise }
 {}
 
 /// Statements that differ in a text between quotes have the same fingerprint.

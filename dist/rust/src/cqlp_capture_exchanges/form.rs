@@ -14,7 +14,8 @@ pub enum ExchangeForm {
     Summary(SummaryBy),
     /// Likewise a JSON object in a line for each name.
     SummaryJson(SummaryBy),
-    /// A line for each interval of so many seconds, at least one, as soon as it is over: how many requests were over in it, and how long they took.
+    /// A line for each interval of so many seconds, at least one, as soon as it is over: how many requests were over in it, and how long they took. The summary
+    /// has no places, and takes 23,664 bytes.
     Intervals(u32),
 }
 

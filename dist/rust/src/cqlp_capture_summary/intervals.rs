@@ -9,7 +9,8 @@ use crate::cqlp_grammar::SinkFault;
 use crate::cqlp_text::{Pen, TextWriter};
 
 /// What is above the columns.
-const HEADER: &str = "               begin      per_s    count errors unanswered      rows       bytes   p50_ms   p95_ms   p99_ms    max_ms\n";
+const HEADER: &str =
+    "               begin      per_s    count errors unanswered      rows       bytes   p50_ms   p95_ms   p99_ms    max_ms\n";
 
 /// The number that `TextWriter::put_date` takes for the first of January 1970.
 const EPOCH: u64 = 1 << 31;
@@ -119,11 +120,7 @@ fn put_second<P: Pen>(writer: &mut TextWriter<P>, second: u64) -> Result<(), Sin
 }
 
 /// Takes how many there were in a second, of so many in an interval.
-fn put_rate<P: Pen>(
-    writer: &mut TextWriter<P>,
-    seconds: u32,
-    count: u64,
-) -> Result<(), SinkFault> {
+fn put_rate<P: Pen>(writer: &mut TextWriter<P>, seconds: u32, count: u64) -> Result<(), SinkFault> {
     let width = width_of(seconds);
     put_number_column(writer, 6, count / width)?;
     writer.put(b".")?;

@@ -153,7 +153,8 @@ impl<A: Allocator> Summary<A> {
         self.names[at] = name;
     }
 
-    /// Whether the interval of so many seconds in which the others are counted is over, since this was over later; it is where none of them is counted.
+    /// Whether the interval of so many seconds in which the others are counted is over, before a request that was over at this time. Where nothing is counted
+    /// it is.
     pub fn is_over(&self, seconds: u32, at: Option<u64>) -> bool {
         is_over(seconds, at, &self.others[0])
     }
@@ -167,13 +168,7 @@ impl<A: Allocator> Summary<A> {
         at: Option<u64>,
     )
     {
-        add_in_interval(
-            &mut self.others[0],
-            seconds,
-            occurrence,
-            is_answered,
-            at,
-        );
+        add_in_interval(&mut self.others[0], seconds, occurrence, is_answered, at);
     }
 
     /// Writes the line of the interval of so many seconds in which the others are counted, or the line above all of them where none is counted.
