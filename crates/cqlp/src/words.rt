@@ -1,6 +1,9 @@
 //! Words that need not be text.
 
-ghost use Rattle.std.specs.Prelude.{◌≡◌, IfOk, IsUtf8, None, string_bytes};
+ghost use Rattle.std.specs.Prelude.{◌≡◌, ◌&&◌, IfOk, IsUtf8, None, is_some, string_bytes};
+ghost use Rattle.std.specs.List.{list_any};
+ghost use Rattle.std.specs.Str.{bytes_eq};
+ghost use Rattle.cqlp_options.specs.CommandLines.{files_of};
 
 use cqlp_options::CommandLine;
 use libc::STDIN_FILENO;
@@ -137,7 +140,7 @@ fn raw_files(alloc: Global, words: &[Argument]) -> Result<RawFiles, AllocError> 
         });
     };
     for (place, word) in words.iter().enumerate() {
-        if word.raw.is_some() && line.has_file(word.text.as_str()) {
+        if is_raw_file(&line, word) {
             places.push(place)?;
         }
     }
@@ -146,6 +149,13 @@ fn raw_files(alloc: Global, words: &[Argument]) -> Result<RawFiles, AllocError> 
         places,
         are_several,
     })
+}
+
+/// Whether a word is no text, and names one of the command line's files.
+fn is_raw_file(line: &CommandLine<'_>, word: &Argument) -> bool
+    ensures { result ≡ (is_some word.now.raw && list_any (λ file. bytes_eq file (string_bytes word.now.text)) (files_of line.now)) }
+{
+    word.raw.is_some() && line.has_file(word.text.as_str())
 }
 
 /// What names a file that is opened as standard input, if it can be.

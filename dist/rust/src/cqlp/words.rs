@@ -133,7 +133,7 @@ fn raw_files(alloc: Global, words: &[Argument]) -> Result<RawFiles, AllocError> 
         });
     };
     for (place, word) in words.iter().enumerate() {
-        if word.raw.is_some() && line.has_file(word.text.as_str()) {
+        if is_raw_file(&line, word) {
             places.push(place)?;
         }
     }
@@ -142,6 +142,11 @@ fn raw_files(alloc: Global, words: &[Argument]) -> Result<RawFiles, AllocError> 
         places,
         are_several,
     })
+}
+
+/// Whether a word is no text, and names one of the command line's files.
+fn is_raw_file(line: &CommandLine<'_>, word: &Argument) -> bool {
+    word.raw.is_some() && line.has_file(word.text.as_str())
 }
 
 /// What names a file that is opened as standard input, if it can be.
