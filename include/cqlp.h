@@ -799,9 +799,12 @@ static inline uint32_t cqlp_write_header(const cqlp_header *fields, uint8_t byte
  *   range, or its address has neither 4 nor 16 bytes, or its text is not UTF-8, or `contents` has no more bytes as many as its length says;
  *   CQLP_MISPLACED where it is a CQLP_TAG_FRAME and not the first event, or the other way round, or comes after the end; CQLP_TOO_MANY_FIELDS;
  *   CQLP_TOO_DEEP where a type option is nested deeper than 64; CQLP_TOO_MANY_BYTES.
- * - Of all events together: CQLP_LEFT_OVER; CQLP_MISPLACED where there is no event; CQLP_NO_SUCH_FRAME where one is of another field or cell than is
- *   due, or does not agree with what comes before it, as a count and how many come or a cell and its column's type, or some are missing, or a text has
- *   more bytes than its length can say.
+ * - Of all events together: CQLP_LEFT_OVER; CQLP_MISPLACED where there is no event.
+ * - CQLP_NO_SUCH_FRAME, and `event` is the first that does not fit: those before it are the first ones of some frame, with a body of any length, and with
+ *   it they are those of none. It is of another field or cell than is due, or does not agree with what comes before it, as a cell with its column's type
+ *   or an event behind as many as were counted, or its text has more bytes than its length can say. Where all fit it is how many there are: others
+ *   are due after them, or the body would have more than 268435456 bytes. To find it memory is asked for once more. That it is the first is tested,
+ *   and not proved.
  * - CQLP_NO_MEMORY, and `event` says at which event. */
 static inline uint32_t cqlp_encode(const cqlp_event *events, size_t count, const uint8_t *contents, size_t length, uint8_t *bytes,
                                    size_t room, cqlp_encoded *encoded);

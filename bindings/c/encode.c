@@ -2,7 +2,8 @@
  * cqlp_encode: what it writes is read as these events, and is the frame itself, but where the frame has bytes after its last field, a null of
  * another length than -1 or a true of another byte than 1; a page of which a scalar comes in parts, or whose cells were read without their
  * types, is refused. Then prepared statements are made at random, with types of all kinds, and events are changed at random, from a fixed seed:
- * what is written is read as these events, and what is refused has written nothing. Events, contents and bytes lie at edges. */
+ * what is written is read as these events, and what is refused has written nothing, and of events that no frame has the one that is named is the
+ * first that does not fit. Events, contents and bytes lie at edges. */
 #include "give.h"
 
 enum { MOST = 160, LONG = 4096 };
@@ -398,6 +399,27 @@ static void change(frame *frame) {
   if (frame->length > LONG) frame->length = LONG;
 }
 
+/* The first events of a frame, with their contents. */
+static void cut(const frame *whole, size_t count, frame *first) {
+  *first = *whole;
+  first->count = count;
+  first->length = 0;
+  for (size_t i = 0; i < count; i++) first->length += has_content(&whole->events[i]) ? whole->events[i].length : 0;
+}
+
+/* No frame has the events, of which this is the first that does not fit: those before it all fit, and with it they do not. */
+static void check_misfit(const frame *whole, size_t event) {
+  static frame first;
+  uint8_t *bytes;
+  cqlp_encoded encoded;
+  cut(whole, event, &first);
+  uint32_t code = encode(&first, LONG, &bytes, &encoded);
+  CHECK(code == CQLP_DONE || (code == (event ? CQLP_NO_SUCH_FRAME : CQLP_MISPLACED) && encoded.event == event));
+  if (event == whole->count) return;
+  cut(whole, event + 1, &first);
+  CHECK(encode(&first, LONG, &bytes, &encoded) == CQLP_NO_SUCH_FRAME && encoded.event == event);
+}
+
 /* What becomes of events that were changed, by codes. */
 static size_t codes[64];
 
@@ -412,6 +434,7 @@ static void write_changed(size_t times) {
     CHECK(code < sizeof codes / sizeof *codes);
     codes[code]++;
     if (code == CQLP_DONE) check_read(&frame, bytes, encoded.length);
+    if (code == CQLP_NO_SUCH_FRAME) check_misfit(&frame, encoded.event);
   }
 }
 

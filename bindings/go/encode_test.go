@@ -335,9 +335,25 @@ func TestEventsChangedAtRandom(t *testing.T) {
 // mustName looks whether the error names an event, or all together.
 func mustName(t *testing.T, bad *EventError, events []Event) {
 	t.Helper()
-	together := bad.Code == CodeNoSuchFrame || len(events) == 0
-	if together != (bad.Index == -1) || !together && (bad.Tag != events[bad.Index].Tag || bad.Field != events[bad.Index].Field) {
+	together := bad.Index == -1
+	if together && bad.Code != CodeNoSuchFrame && len(events) > 0 ||
+		!together && (bad.Tag != events[bad.Index].Tag || bad.Field != events[bad.Index].Field) {
 		t.Fatal(bad, events)
+	}
+	if !together && bad.Code == CodeNoSuchFrame {
+		mustBeFirst(t, bad, events)
+	}
+}
+
+// mustBeFirst looks whether the events before the one that is named all fit, and with it they do not.
+func mustBeFirst(t *testing.T, bad *EventError, events []Event) {
+	t.Helper()
+	var before, with *EventError
+	if _, err := EncodeEvents(events[:bad.Index]); errors.As(err, &before) && before.Index != -1 {
+		t.Fatal(before, bad, events)
+	}
+	if _, err := EncodeEvents(events[:bad.Index+1]); !errors.As(err, &with) || *with != *bad {
+		t.Fatal(with, bad, events)
 	}
 }
 
@@ -367,8 +383,8 @@ func TestEventsThatAreRefused(t *testing.T) {
 		{1, Event{Tag: TagInet, Field: FieldAddress, Octets: 5}, CodeNoEvent, "event 1, Inet Address: NoEvent"},
 		{1, Event{Tag: TagFrame, Opcode: OpcodeOptions}, CodeMisplaced, "event 1, Frame: Misplaced"},
 		{3, Event{Tag: TagEnd}, CodeMisplaced, "event 4, End: Misplaced"},
-		{1, Event{Tag: TagUUID, Field: FieldTraceID}, CodeNoSuchFrame, "the events together: NoSuchFrame"},
-		{3, Event{Tag: TagByte, Field: FieldQueryFlags, Number: 4}, CodeNoSuchFrame, "the events together: NoSuchFrame"},
+		{1, Event{Tag: TagUUID, Field: FieldTraceID}, CodeNoSuchFrame, "event 1, Uuid TraceId: NoSuchFrame"},
+		{3, Event{Tag: TagByte, Field: FieldQueryFlags, Number: 4}, CodeNoSuchFrame, "event 4, End: NoSuchFrame"},
 	} {
 		events := queryEvents()
 		events[refused.at] = refused.event

@@ -9,8 +9,9 @@ type EventError struct {
 	// Tag and Field are the event's.
 	Tag   Tag
 	Field Field
-	// Code says why, as include/cqlp.h does of cqlp_encode: of one event it is CodeNoEvent, CodeMisplaced or CodeUnbuilt, and of all together
-	// CodeNoSuchFrame, where one is of another field than is due, or does not agree with what comes before it, or some are missing.
+	// Code says why, as include/cqlp.h does of cqlp_encode: of one event it is CodeNoEvent, CodeMisplaced or CodeUnbuilt, or CodeNoSuchFrame where it is
+	// the first that is of another field than is due, or does not agree with what comes before it. Of all together it is CodeNoSuchFrame where some
+	// are missing; of the head of a page also where one does not fit.
 	Code Code
 }
 

@@ -23,8 +23,8 @@ _NO_EVENT = bytes(_native.RECORD.size)
 
 class BadEvent(BadCall):
     """No frame has these events, and nothing was written; of a PageWriter, nothing more. `code` says why, as `include/cqlp.h` does of cqlp_encode: of
-    one event it is `NO_EVENT`, `MISPLACED` or `UNBUILT`, and of all together `NO_SUCH_FRAME`, where one is of another field than is due, or does not
-    agree with what comes before it, or some are missing."""
+    one event it is `NO_EVENT`, `MISPLACED` or `UNBUILT`, or `NO_SUCH_FRAME` where it is the first that is of another field than is due, or does not
+    agree with what comes before it. Of all together it is `NO_SUCH_FRAME` where some are missing; of the head of a page also where one does not fit."""
 
     def __init__(self, code: int, index: int, event: Optional[Event]) -> None:
         super().__init__(code)

@@ -243,9 +243,9 @@ class Encodes(unittest.TestCase):
             (1, Event(tag=Tag.INET, field=Field.ADDRESS, octets=bytes(20)), Code.NO_EVENT, "event 1, Inet Address: NoEvent"),
             (1, Event(tag=Tag.FRAME, opcode=Opcode.OPTIONS), Code.MISPLACED, "event 1, Frame: Misplaced"),
             (3, Event(tag=Tag.END), Code.MISPLACED, "event 4, End: Misplaced"),
-            (1, Event(tag=Tag.UUID, field=Field.TRACE_ID, octets=bytes(16)), Code.NO_SUCH_FRAME, "the events together: NoSuchFrame"),
-            (3, Event(tag=Tag.BYTE, field=Field.QUERY_FLAGS, number=4), Code.NO_SUCH_FRAME, "the events together: NoSuchFrame"),
-            (0, QUERY[0]._replace(flags=1), Code.NO_SUCH_FRAME, "the events together: NoSuchFrame"),
+            (1, Event(tag=Tag.UUID, field=Field.TRACE_ID, octets=bytes(16)), Code.NO_SUCH_FRAME, "event 1, Uuid TraceId: NoSuchFrame"),
+            (3, Event(tag=Tag.BYTE, field=Field.QUERY_FLAGS, number=4), Code.NO_SUCH_FRAME, "event 4, End: NoSuchFrame"),
+            (0, QUERY[0]._replace(flags=1), Code.NO_SUCH_FRAME, "event 0, Frame: NoSuchFrame"),
         )
         for compiled in COMPILED:
             for at, event, code, words in cases:
@@ -256,6 +256,7 @@ class Encodes(unittest.TestCase):
                     cqlp.encode(iter(events))
                 index = bad.exception.index
                 self.assertEqual(bad.exception.event, events[index] if index < len(events) else None)
+            self.assertEqual(outcome(QUERY[:3], compiled), (Code.NO_SUCH_FRAME, 3, "the events together: NoSuchFrame"))
             self.assertEqual(outcome((), compiled), (Code.MISPLACED, 0, "the events together: Misplaced"))
 
     def test_what_is_no_event(self) -> None:

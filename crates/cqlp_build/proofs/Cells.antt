@@ -24,7 +24,7 @@ use Rattle.cqlp_build.specs.declared.held.FrameEvents.{FrameEvents}
 use Rattle.std.proofs.lemmas.List.{map-append}
 use Rattle.cqlp_build_cells.specs.declared.step.Step.{Step}
 use Rattle.cqlp_build.specs.FrameEvents.{IsSound, TakesStep, first_fault, left}
-use Rattle.cqlp_build.specs.Productions.{BuildsCell, Gathers, ends_at_last, fault_of}
+use Rattle.cqlp_build.specs.Productions.{BuildsCell, Gathers, KeepsFault, ends_at_last, fault_of}
 use Rattle.cqlp_build.proofs.Several.{both, join}
 use Rattle.cqlp_build.proofs.Steps.{no_memory}
 
@@ -253,3 +253,13 @@ module _ (row column : ℕ) (k : Kind) (inner : Types) (old mid new : FrameEvent
   pub not_gathered : Gathers row column false old mid → new.fault ≡ first_fault mid.fault fault.NoFrame → BuildsCell row column (Type_and k inner NoMore) v old new
   not_gathered (inl m) r = no_memory v (r ∙ ap (λ f. first_fault f fault.NoFrame) m)
   not_gathered (inr m) r = cell_of_fault old.fault refl m.0 m.1 r
+
+-- what is not refused was not
+pub still_sound : (row column : ℕ) (old mid : FrameEvents) → Gathers row column false old mid → IsSound mid → IsSound old
+still_sound row column old mid (inl m) s = let d : None ≡ Some fault.NoMemory = sym s ∙ m in absurd cc
+still_sound row column old mid (inr m) s = sym m.0 ∙ s
+
+pub still_not_gathered : (row column : ℕ) (old mid new : FrameEvents) → Gathers row column false old mid → KeepsFault mid new → Gathers row column false old new
+still_not_gathered row column old mid new (inl m) (inl k) = inl (k ∙ m)
+still_not_gathered row column old mid new (inr m) (inl k) = inr (k ∙ m.0, m.1)
+still_not_gathered row column old mid new g (inr k) = inl k

@@ -107,6 +107,10 @@ Gathers row column false old new =
     ⊎ ((new.fault ≡ old.fault)
     × (IsSound old → (es : List CellEvent) (rest : List Event) → ends_at_last es ≡ true → left old ≡ map (cell_event row column) es ++ rest → ⊥))
 
+-- What was refused is as it was, or memory was refused.
+abbrev pub KeepsFault : (old new : FrameEvents) → Type 0
+KeepsFault old new = (new.fault ≡ old.fault) ⊎ (new.fault ≡ Some fault.NoMemory)
+
 -- the type of the column of this number alone
 abbrev pub column_type : (column : ℕ) → Types → Types
 column_type n NoMore = NoMore

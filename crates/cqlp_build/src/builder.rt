@@ -1,9 +1,10 @@
 //! Frames, built of their events.
 
-ghost use Rattle.std.specs.Prelude.{◌≡◌, ◌+◌, ◌<◌, ◌≤◌, ◌↔◌, IsTrue, OnOk, [], length, true};
+ghost use Rattle.std.specs.Prelude.{◌≡◌, ◌+◌, ◌<◌, ◌≤◌, ◌↔◌, IfErr, IfOk, IsTrue, OnOk, [], length, true};
 ghost use Rattle.std.specs.VecDeque.{deque_capacity, deque_len};
 ghost use Rattle.cqlp_grammar.specs.Events as model;
 ghost use Rattle.cqlp_grammar.specs.Events.{event_of};
+ghost use Rattle.cqlp_build.specs.declared.error.BuildError.TheVariants as error;
 ghost use Rattle.cqlp_build.specs.Building as building;
 ghost use Rattle.cqlp_build.specs.Building.{BeginsWith, Finishes, IsOfHeader, TakesEvent, Reports, empty, is_inner, state};
 ghost use Rattle.cqlp_build.specs.Closing.{Closes, ClosesAt, IsOfSome, ReportsOf};
@@ -142,6 +143,27 @@ impl FrameBuilder {
         let closed = self.held.close(&header);
         self.clear();
         closed
+    }
+
+    /// Which event of the frame under way is the first that does not fit, counted from its header, which is 0: those before it are the first events
+    /// of some frame, whose body may be of any length, and with it they are those of none. Where all fit it is how many were taken, since others
+    /// are due after them or the body is too long; so it is for a frame that [`FrameBuilder::close`] does not refuse. It is between frames then.
+    ///
+    /// # Errors
+    ///
+    /// [`BuildError::NoMemory`] where memory was refused.
+    pub fn misfit(&mut self) -> Result<usize, BuildError>
+        ensures at { IfOk result (λ at. at ≤ length (state self.old).events) }
+        ensures refused { IfErr result (λ why. why ≡ error.NoMemory) }
+        ensures new { state self.new ≡ empty self.old.limits }
+    {
+        let Some(header) = self.header else {
+            self.clear();
+            return Ok(0);
+        };
+        let at = self.held.misfit(&header);
+        self.clear();
+        at
     }
 
     /// Whether it is between frames. Where a stream ends and it is not, the last frame was cut.
@@ -371,7 +393,7 @@ fn is_length(announced: u32, len: u32, extra: u32) -> bool
 }
 
 /// Whether a header is a response's where its opcode is one of a response.
-fn is_directed(header: &Header) -> bool
+pub(crate) fn is_directed(header: &Header) -> bool
     ensures { result ≡ same header.now.response (answers header.now.opcode) }
 {
     let answers = header.opcode.is_response();

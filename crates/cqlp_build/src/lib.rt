@@ -11,6 +11,7 @@ pub mod laws;
 mod lists;
 mod messages;
 mod metadata;
+mod misfit;
 mod nesting;
 mod pages;
 mod requests;

@@ -8,12 +8,12 @@ ghost use Rattle.cqlp_value.specs.Values.{Values};
 ghost use Rattle.cqlp_message.specs.Bodies.{cell_types, page_parts};
 ghost use Rattle.cqlp_message.specs.Owned.{metadata_of, page_of};
 ghost use Rattle.cqlp_build.specs.FrameEvents.{Builds, IsSound};
-ghost use Rattle.cqlp_build.specs.Productions.{AreCells, AreReadable, BuildsCell, BuildsRow, Gathers, IsPage, cells_parts, column_type, fault_of};
+ghost use Rattle.cqlp_build.specs.Productions.{AreCells, AreReadable, BuildsCell, BuildsRow, Gathers, IsPage, KeepsFault, cells_parts, column_type, fault_of};
 ghost use Rattle.cqlp_build.specs.Emitted.{emitted};
 ghost use Rattle.cqlp_build_cells.specs.Said.{IsReadable};
 
 use crate::held::{Fault, FrameEvents};
-use cqlp_build_cells::{CellError, ends};
+use cqlp_build_cells::{CellError, Step, ends};
 use cqlp_kind::Kind;
 use cqlp_message::{Metadata, Rows};
 use cqlp_note::Field;
@@ -96,6 +96,7 @@ impl FrameEvents {
         ensures { BuildsCell row column (types_in (tree_of tree.now)) (value_of result) self.old self.new }
     {
         if !self.gather(row, column) {
+            self.take_front(tree);
             self.refuse(Fault::NoFrame);
             return Value::Null;
         }
@@ -124,6 +125,24 @@ impl FrameEvents {
             }
         }
         false
+    }
+
+    /// Takes of a cell that did not come whole the events that are the first ones of a value of this type, and the one after them.
+    fn take_front(&mut self, tree: &TypeTree)
+        requires { IsSound self.old → IsReadable tree.now }
+        ensures { KeepsFault self.old self.new }
+    {
+        if self.fault.is_some() {
+            return;
+        }
+        // No value is around as many, so it is the first event of none, and is taken where all others were those of one.
+        if self.cell.push(u32::MAX, Step::Null).is_err() {
+            self.refuse(Fault::NoMemory);
+            return;
+        }
+        if let Err(CellError::NoMemory) = self.cell.whole(tree) {
+            self.refuse(Fault::NoMemory);
+        }
     }
 }
 

@@ -1,6 +1,6 @@
 //! The events that are held of a cell, and what is taken of them.
 
-ghost use Rattle.std.specs.Prelude.{◌≡◌, ◌↔◌, ◌∷◌, ◌++◌, IsTrue, OnOk, [], true};
+ghost use Rattle.std.specs.Prelude.{◌≡◌, ◌↔◌, ◌∷◌, ◌++◌, IsTrue, OnOk, [], length, true};
 ghost use Rattle.cqlp_build_cells.specs.CellEvents as model;
 ghost use Rattle.cqlp_build_cells.specs.CellEvents.{Builds, HoldsFewer, HoldsNoMore, TakesStep, any, begins_with_leave, first_fault, left, emitted_at};
 ghost use Rattle.cqlp_kind.specs.CellStep.{Leave};
@@ -90,6 +90,13 @@ impl CellEvents {
         ensures { IsTrue result ↔ (left self.now ≡ []) }
     {
         self.items.is_empty()
+    }
+
+    /// How many are left.
+    pub fn how_many(&self) -> usize
+        ensures { result ≡ length (left self.now) }
+    {
+        self.items.len()
     }
 
     /// Takes the end of a value at this level, after this many items.

@@ -12,7 +12,7 @@ use Rattle.cqlp_c.specs.declared.encode.Stopped.{Stopped}
 use Rattle.cqlp_c.specs.declared.encode.Unencoded.{Unencoded}
 use Rattle.cqlp_c.specs.declared.encode.Unencoded.TheVariants as unencoded
 use Rattle.cqlp_c.specs.declared.event.CqlpEvent.{CqlpEvent}
-use Rattle.cqlp_c.specs.Encoding.{HasNone, IsEncoded, IsUnencodedAt, StopsAt, Taken, TakesOne, after_all, after_one, at_first, on_from, unless, with_c_event}
+use Rattle.cqlp_c.specs.Encoding.{HasNone, IsEncoded, IsMisfitAt, IsPlaced, IsUnencodedAt, StopsAt, StopsFor, Taken, TakesOne, after_all, after_one, at_first, on_from, unless, with_c_event}
 use Rattle.cqlp_c.specs.declared.from_c.BadEvent.{BadEvent}
 use Rattle.cqlp_c.specs.FromC.{content_len, event_from_c}
 
@@ -133,20 +133,31 @@ module _ (cs : List CqlpEvent) (contents : List ℕ) (s : ComposerState) (rest :
   pub encoded_by : (bytes : List ℕ) → rest ≡ [] → IsWrittenOf s.frame.events bytes → IsEncoded cs contents bytes
   encoded_by bytes e w = (s, none_left e, inl w)
 
-  ended : (why : BuildError) → rest ≡ [] → IsOfNone s.frame.events why
-      → (after_all 0 (at_first contents) cs ≡ Err (record { event = length cs; why = unencoded.Refused why }))
-      ⊎ ((t : Taken) × (after_all 0 (at_first contents) cs ≡ Ok t) × (length cs ≡ length cs) × HasNone t (unencoded.Refused why))
-  ended why e w = inr ((s, []), none_left e, refl, w)
+  ended : (why : BuildError) → IsPlaced (unencoded.Refused why) (length cs) (length cs) → rest ≡ [] → IsOfNone s.frame.events why
+      → StopsFor cs contents (record { event = length cs; why = unencoded.Refused why })
+  ended why p e w = inr ((s, []), none_left e, p, w)
 
   pub not_encoded : (why : BuildError) → rest ≡ [] → IsOfNone s.frame.events why → IsUnencodedAt cs contents (length cs) (unencoded.Refused why)
   not_encoded error.NoMemory e w =
       (omega arith, ap is_ok (ap (λ (ds : List CqlpEvent). after_all 0 (at_first contents) ds) (take_all (length cs + 1) cs (omega arith)) ∙ all))
-  not_encoded error.Misplaced e w = ended error.Misplaced e w
-  not_encoded error.Unbuilt e w = ended error.Unbuilt e w
-  not_encoded error.TooManyFields e w = ended error.TooManyFields e w
-  not_encoded error.TooDeep e w = ended error.TooDeep e w
-  not_encoded error.TooManyBytes e w = ended error.TooManyBytes e w
-  not_encoded error.NoFrame e w = ended error.NoFrame e w
+  not_encoded error.Misplaced e w = ended error.Misplaced refl e w
+  not_encoded error.Unbuilt e w = ended error.Unbuilt refl e w
+  not_encoded error.TooManyFields e w = ended error.TooManyFields refl e w
+  not_encoded error.TooDeep e w = ended error.TooDeep refl e w
+  not_encoded error.TooManyBytes e w = ended error.TooManyBytes refl e w
+  not_encoded error.NoFrame e w = ended error.NoFrame (omega arith) e w
+
+  pub misfits : (n : ℕ) (why : Unencoded) → rest ≡ [] → IsOfNone s.frame.events error.NoFrame → IsMisfitAt why n (length cs) → IsUnencodedAt cs contents n why
+  misfits n (unencoded.Refused error.NoFrame) e w m = inr ((s, []), none_left e, m, w)
+  misfits n (unencoded.Refused error.NoMemory) e w m =
+      (omega (arith, m), ap is_ok (ap (λ (ds : List CqlpEvent). after_all 0 (at_first contents) ds) (take_all (n + 1) cs (omega (arith, m))) ∙ all))
+  misfits n (unencoded.Refused error.Misplaced) e w m = absurd m
+  misfits n (unencoded.Refused error.Unbuilt) e w m = absurd m
+  misfits n (unencoded.Refused error.TooManyFields) e w m = absurd m
+  misfits n (unencoded.Refused error.TooDeep) e w m = absurd m
+  misfits n (unencoded.Refused error.TooManyBytes) e w m = absurd m
+  misfits n (unencoded.BadEvent b) e w m = absurd m
+  misfits n unencoded.LeftOver e w m = absurd m
 
 -- what ends at the frame, or before it
-pub ruleset ends_here = (unencoded_by, left_over, encoded_by, not_encoded)
+pub ruleset ends_here = (unencoded_by, left_over, encoded_by, not_encoded, misfits)

@@ -28,8 +28,8 @@ use Rattle.cqlp_c.specs.declared.encode.Unencoded.{Unencoded}
 use Rattle.cqlp_c.specs.declared.encode.Unencoded.TheVariants as unencoded
 use Rattle.cqlp_c.specs.declared.event.CqlpEvent.{CqlpEvent}
 use Rattle.cqlp_c.specs.declared.numbers.TheConstants as numbers
-use Rattle.cqlp_c.specs.EncodeLaws.{AreWhole, IsReadAs}
-use Rattle.cqlp_c.specs.Encoding.{Encodes, HasNone, IsEncoded, IsUnencodedAt, IsWritten, PutsFrame, PutsNone, StopsFor, Taken, after_all, at_first, code_of_unencoded}
+use Rattle.cqlp_c.specs.EncodeLaws.{AreAlike, AreWhole, IsReadAs}
+use Rattle.cqlp_c.specs.Encoding.{Encodes, HasNone, IsEncoded, IsPlaced, IsUnencodedAt, IsWritten, PutsFrame, PutsNone, StopsFor, Taken, after_all, at_first, code_of_unencoded}
 use Rattle.cqlp_c.specs.Rooms.{PutsBytes, PutsWhere}
 
 -- ---- the frame
@@ -48,9 +48,6 @@ puts_where_once false bytes before one other a b p q = (p.0 ∙ sym q.0, p.1 ∙
 
 puts_once : (bytes before one other : List ℕ) (a b m n : ℕ) → PutsBytes bytes a before one m → PutsBytes bytes b before other n → ((a ≡ b) × (one ≡ other)) × (m ≡ n)
 puts_once bytes before one other a b m n p q = (puts_where_once (nat_lt (length before) (length bytes)) bytes before one other a b p.0 q.0, p.1 ∙ sym q.1)
-
-encoded_is : (t u : CqlpEncoded) → t.length ≡ u.length → t.event ≡ u.event → t ≡ u
-encoded_is t u p q = λ i. record { length = p i; event = q i }
 
 -- ---- no frame
 
@@ -119,31 +116,55 @@ one_none : (s : ComposerState) (rest : List ℕ) (a b : Unencoded) → HasNone (
 one_none s [] a b x y = one_none_left s a b x y
 one_none s (c ∷ bs) a b x y = inl (one_some_left s c bs a b x y)
 
+-- the place is said, but where no frame has the events
+abbrev HasPlaces : (q r : Stopped) → Type 0
+HasPlaces q r = (q.event ≡ r.event) ⊎ (code_of_unencoded q.why ≡ numbers.NO_SUCH_FRAME)
+
 -- two that stop have one place and one code, or memory was refused
 abbrev AreOne : (q r : Stopped) → Type 0
 AreOne q r =
-    ((q.event ≡ r.event) × (code_of_unencoded q.why ≡ code_of_unencoded r.why))
+    (HasPlaces q r × (code_of_unencoded q.why ≡ code_of_unencoded r.why))
     ⊎ ((code_of_unencoded q.why ≡ numbers.NO_MEMORY) ⊎ (code_of_unencoded r.why ≡ numbers.NO_MEMORY))
 
-placed_one : (q r : Stopped) → q.event ≡ r.event → (code_of_unencoded q.why ≡ code_of_unencoded r.why) ⊎ ((code_of_unencoded q.why ≡ numbers.NO_MEMORY) ⊎ (code_of_unencoded r.why ≡ numbers.NO_MEMORY)) → AreOne q r
-placed_one q r p (inl e) = inl (p, e)
-placed_one q r p (inr e) = inr e
+abbrev IsAtEnd : (q : Stopped) (all : ℕ) → Type 0
+IsAtEnd q all = (q.event ≡ all) ⊎ (code_of_unencoded q.why ≡ numbers.NO_SUCH_FRAME)
+
+at_end : (n all : ℕ) (why : Unencoded) → IsPlaced why n all → (n ≡ all) ⊎ (code_of_unencoded why ≡ numbers.NO_SUCH_FRAME)
+at_end n all (unencoded.Refused error.NoFrame) p = inr refl
+at_end n all (unencoded.Refused error.NoMemory) p = inl p
+at_end n all (unencoded.Refused error.Misplaced) p = inl p
+at_end n all (unencoded.Refused error.Unbuilt) p = inl p
+at_end n all (unencoded.Refused error.TooManyFields) p = inl p
+at_end n all (unencoded.Refused error.TooDeep) p = inl p
+at_end n all (unencoded.Refused error.TooManyBytes) p = inl p
+at_end n all (unencoded.BadEvent w) p = inl p
+at_end n all unencoded.LeftOver p = inl p
+
+one_place : (q r : Stopped) (all : ℕ) → IsAtEnd q all → IsAtEnd r all → code_of_unencoded q.why ≡ code_of_unencoded r.why → HasPlaces q r
+one_place q r all (inl x) (inl y) k = inl (x ∙ sym y)
+one_place q r all (inl x) (inr y) k = inr (k ∙ y)
+one_place q r all (inr x) y k = inr x
+
+placed_one : (q r : Stopped) (all : ℕ) → IsAtEnd q all → IsAtEnd r all
+    → (code_of_unencoded q.why ≡ code_of_unencoded r.why) ⊎ ((code_of_unencoded q.why ≡ numbers.NO_MEMORY) ⊎ (code_of_unencoded r.why ≡ numbers.NO_MEMORY)) → AreOne q r
+placed_one q r all x y (inl k) = inl (one_place q r all x y k, k)
+placed_one q r all x y (inr e) = inr e
 
 one_stop : (cs : List CqlpEvent) (contents : List ℕ) (q r : Stopped) → StopsFor cs contents q → StopsFor cs contents r → AreOne q r
 one_stop cs contents q r (inl x) (inl y) =
     let same : q ≡ r = let d : Err q ≡ Err r = sym x ∙ y in cc in
-    inl (ap (λ (z : Stopped). z.event) same, ap (λ (z : Stopped). code_of_unencoded z.why) same)
+    inl (inl (ap (λ (z : Stopped). z.event) same), ap (λ (z : Stopped). code_of_unencoded z.why) same)
 one_stop cs contents q r (inl x) (inr y) = let d : Err q ≡ Ok y.0 = sym x ∙ y.1 in absurd cc
 one_stop cs contents q r (inr x) (inl y) = let d : Ok x.0 ≡ Err r = sym x.1 ∙ y in absurd cc
 one_stop cs contents q r (inr x) (inr y) =
     let same : y.0 ≡ x.0 = let d : Ok y.0 ≡ Ok x.0 = sym y.1 ∙ x.1 in cc in
-    placed_one q r (x.2 ∙ sym y.2) (one_none x.0.0 x.0.1 q.why r.why x.3 (subst (λ (t : Taken). HasNone t r.why) same y.3))
+    placed_one q r (length cs) (at_end q.event (length cs) q.why x.2) (at_end r.event (length cs) r.why y.2) (one_none x.0.0 x.0.1 q.why r.why x.3 (subst (λ (t : Taken). HasNone t r.why) same y.3))
 
 -- ---- one answer
 
 module _ (cs : List CqlpEvent) (contents before : List ℕ) (a b : ℕ) (one other : List ℕ) (t u : CqlpEncoded) where
   abbrev Same : Type 0
-  Same = ((a ≡ b) × (one ≡ other) × (t ≡ u)) ⊎ ((a ≡ numbers.NO_MEMORY) ⊎ (b ≡ numbers.NO_MEMORY))
+  Same = ((a ≡ b) × (one ≡ other) × AreAlike a t u) ⊎ ((a ≡ numbers.NO_MEMORY) ⊎ (b ≡ numbers.NO_MEMORY))
 
   frames_once : PutsFrame cs contents a before one t → PutsFrame cs contents b before other u → Same
   frames_once x y =
@@ -151,7 +172,7 @@ module _ (cs : List CqlpEvent) (contents before : List ℕ) (a b : ℕ) (one oth
       let left : x.1.0 ≡ y.1.0 = ap (λ (t : Taken). t.0) alike in
       let bytes : y.0 ≡ x.0 = written_once x.1.0.frame.events y.0 x.0 (subst (λ (s : ComposerState). IsWritten s.frame.events y.0) (sym left) y.1.2) x.1.2 in
       let p = puts_once x.0 before one other a b t.length u.length x.2 (subst (λ (z : List ℕ). PutsBytes z b before other u.length) bytes y.2) in
-      inl (p.0.0, p.0.1, encoded_is t u p.1 (x.3 ∙ sym y.3))
+      inl (p.0.0, p.0.1, (p.1, inl (x.3 ∙ sym y.3)))
 
   frame_or_none : PutsFrame cs contents a before one t → PutsNone cs contents b before other u → Same
   frame_or_none x y = by (stops_for cs contents y.0.event y.0.why y.1)
@@ -170,8 +191,12 @@ module _ (cs : List CqlpEvent) (contents before : List ℕ) (a b : ℕ) (one oth
   none_once : PutsNone cs contents a before one t → PutsNone cs contents b before other u → Same
   none_once x y = by (stops_for cs contents x.0.event x.0.why x.1) (stops_for cs contents y.0.event y.0.why y.1)
     where
+      place : HasPlaces x.0 y.0 → (t.event ≡ u.event) ⊎ (a ≡ numbers.NO_SUCH_FRAME)
+      place (inl e) = inl (ap (λ (z : CqlpEncoded). z.event) x.4 ∙ e ∙ sym (ap (λ (z : CqlpEncoded). z.event) y.4))
+      place (inr e) = inr (x.2 ∙ e)
+
       alike : AreOne x.0 y.0 → Same
-      alike (inl (e, k)) = inl (x.2 ∙ k ∙ sym y.2, x.3 ∙ sym y.3, x.4 ∙ ap (λ (n : ℕ). record { length = 0; event = n }) e ∙ sym y.4)
+      alike (inl (e, k)) = inl (x.2 ∙ k ∙ sym y.2, x.3 ∙ sym y.3, (ap (λ (z : CqlpEncoded). z.length) x.4 ∙ sym (ap (λ (z : CqlpEncoded). z.length) y.4), place e))
       alike (inr (inl k)) = inr (inl (x.2 ∙ k))
       alike (inr (inr k)) = inr (inr (y.2 ∙ k))
 

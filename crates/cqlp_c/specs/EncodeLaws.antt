@@ -19,12 +19,16 @@ use Rattle.cqlp_c.specs.Encoding.{Encodes, IsEncoded, IsWritten, Taken, after_al
 use Rattle.cqlp_c.specs.Events.{Writes, content_of}
 use Rattle.cqlp_c.specs.FromCLaws.{EventIsInRange, is_part, kept}
 
+-- Both have this length, and both name the same event, which is not said where no frame has the events.
+abbrev pub AreAlike : (code : ℕ) → (t u : CqlpEncoded) → Type 0
+AreAlike code t u = (t.length ≡ u.length) × ((t.event ≡ u.event) ⊎ (code ≡ numbers.NO_SUCH_FRAME))
+
 -- Of the same events with the same contents, and into the same room, there is one answer, but where memory is refused.
 abbrev pub IsOneAnswerOfEncode : Type 0
 IsOneAnswerOfEncode =
     (cs : List CqlpEvent) (contents before : List ℕ) (a b : ℕ) (one other : List ℕ) (t u : CqlpEncoded)
     → Encodes cs contents a before one t → Encodes cs contents b before other u
-    → ((a ≡ b) × (one ≡ other) × (t ≡ u)) ⊎ ((a ≡ numbers.NO_MEMORY) ⊎ (b ≡ numbers.NO_MEMORY))
+    → ((a ≡ b) × (one ≡ other) × AreAlike a t u) ⊎ ((a ≡ numbers.NO_MEMORY) ⊎ (b ≡ numbers.NO_MEMORY))
 
 -- ---- events that a decoder said
 

@@ -94,11 +94,25 @@ HasNone (s, []) (unencoded.Refused why) = IsOfNone s.frame.events why
 HasNone (s, b ∷ bs) unencoded.LeftOver = ⊤
 HasNone t why = ⊥
 
+-- At which event it is refused, of as many: where no frame has them it is one of them, or none; else it is none.
+abbrev pub IsPlaced : Unencoded → (event all : ℕ) → Type 0
+IsPlaced (unencoded.Refused error.NoFrame) event all = event ≤ all
+IsPlaced why event all = event ≡ all
+
+-- No frame has the events, which are as many; or memory was refused before it was known where.
+abbrev pub IsMisfitAt : Unencoded → (event all : ℕ) → Type 0
+IsMisfitAt (unencoded.Refused error.NoFrame) event all = event ≤ all
+IsMisfitAt (unencoded.Refused error.NoMemory) event all = event ≡ all
+IsMisfitAt why event all = ⊥
+
+abbrev pub IsMisfit : (all : ℕ) → Stopped → Type 0
+IsMisfit all r = IsMisfitAt r.why r.event all
+
 -- An event is not taken; or all are, and then there is no frame.
 abbrev pub StopsFor : List CqlpEvent → (contents : List ℕ) → Stopped → Type 0
 StopsFor cs contents r =
     (after_all 0 (at_first contents) cs ≡ Err r)
-    ⊎ ((t : Taken) × (after_all 0 (at_first contents) cs ≡ Ok t) × (r.event ≡ length cs) × HasNone t r.why)
+    ⊎ ((t : Taken) × (after_all 0 (at_first contents) cs ≡ Ok t) × IsPlaced r.why r.event (length cs) × HasNone t r.why)
 
 abbrev pub IsUnencodedAt : List CqlpEvent → (contents : List ℕ) → (n : ℕ) → Unencoded → Type 0
 IsUnencodedAt cs contents n (unencoded.Refused error.NoMemory) = (n ≤ length cs) × IsOk (after_all 0 (at_first contents) (take (n + 1) cs))

@@ -3,7 +3,7 @@
 ghost use Rattle.std.specs.Prelude.{◌≡◌, length, MatchResult};
 ghost use Rattle.cqlp_compose.specs.Composing.{composed};
 ghost use Rattle.cqlp_c.specs.Encoding as model;
-ghost use Rattle.cqlp_c.specs.Encoding.{Encodes, IsEncoded, IsUnencoded, TakesAll, TakesOne, code_of_refused};
+ghost use Rattle.cqlp_c.specs.Encoding.{Encodes, IsEncoded, IsMisfit, IsUnencoded, TakesAll, TakesOne, code_of_refused};
 ghost use Rattle.cqlp_c.specs.Encoding.{code_of_unencoded, code_of_bad_event, seen};
 ghost use Rattle.cqlp_c.specs.Rooms.{PutsBytes};
 
@@ -114,11 +114,38 @@ fn frame_bytes(alloc: Global, events: &[CqlpEvent], contents: &[u8]) -> Result<V
     }
     match composer.write(alloc) {
         Ok(bytes) => Ok(bytes),
+        Err(BuildError::NoFrame) => Err(misfit(alloc, events, contents)),
         Err(why) => Err(Stopped {
             event,
             why: Unencoded::Refused(why),
         }),
     }
+}
+
+/// That no frame has these events, and which is the first that does not fit; or that memory was refused for that.
+fn misfit(alloc: Global, events: &[CqlpEvent], contents: &[u8]) -> Stopped
+    ensures { IsMisfit (length events.now) result }
+{
+    let all = events.len();
+    match first_misfit(alloc, events, contents) {
+        Some(at) => Stopped {
+            event: at.min(all),
+            why: Unencoded::Refused(BuildError::NoFrame),
+        },
+        None => Stopped {
+            event: all,
+            why: Unencoded::Refused(BuildError::NoMemory),
+        },
+    }
+}
+
+/// Which of these events, each of which is taken, is the first that does not fit; None where memory was refused.
+fn first_misfit(alloc: Global, events: &[CqlpEvent], contents: &[u8]) -> Option<usize> {
+    let mut composer = Composer::new(alloc, longest());
+    if take_all(&mut composer, events, contents).is_err() {
+        return None;
+    }
+    composer.misfit().ok()
 }
 
 /// The code for what is no event.

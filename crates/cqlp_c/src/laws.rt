@@ -80,7 +80,8 @@ pub fn events_are_pushed()
     ensures { EventsArePushed }
 {}
 
-/// Of the same events, with the same contents and room, `cqlp_encode` has one answer, but where memory is refused.
+/// Of the same events, with the same contents and room, `cqlp_encode` has one answer, but where memory is refused, and but for the event that it names
+/// where no frame has them.
 pub fn one_answer_of_encode()
     ensures { IsOneAnswerOfEncode }
 {}

@@ -1,6 +1,6 @@
 //! The events of one frame, and its bytes.
 
-ghost use Rattle.std.specs.Prelude.{◌≡◌, None, MatchResult, IfOk, IfErr, false};
+ghost use Rattle.std.specs.Prelude.{◌≡◌, ◌≤◌, None, MatchResult, IfOk, IfErr, false, length};
 ghost use Rattle.cqlp_grammar.specs.Events as model;
 ghost use Rattle.cqlp_grammar.specs.Events.{event_of};
 ghost use Rattle.cqlp_message.specs.Frames.{FrameIsInRange, frame_bytes, unfit_of};
@@ -117,6 +117,23 @@ impl Composer {
             ended: _,
         } = self;
         builder.close()
+    }
+
+    /// Which of these events is the first that does not fit, counted from the header, which is 0, as [`FrameBuilder::misfit`] answers it. Where all fit it
+    /// is how many came, without the end.
+    ///
+    /// # Errors
+    ///
+    /// [`BuildError::NoMemory`] where memory was refused.
+    pub fn misfit(self) -> Result<usize, BuildError>
+        ensures at { IfOk result (λ at. at ≤ length (composed self).frame.events) }
+        ensures refused { IfErr result (λ why. why ≡ error.NoMemory) }
+    {
+        let Composer {
+            mut builder,
+            ended: _,
+        } = self;
+        builder.misfit()
     }
 
     /// Writes the frame that has these events: 9 to 268,435,465 bytes.

@@ -116,6 +116,44 @@ fn limits_of_a_frame() {
     assert_eq!(said(limits, &[begin, blob]), [None, Some(BuildError::TooManyBytes)]);
 }
 
+/// Which event a composer names of the first frame of a stream without one of its events and its end, or of as many of those; and how many it took.
+fn named(limits: Limits, stream: &[u8], without: usize, most: usize) -> (usize, usize) {
+    let limits = Limits { types: true, parts: false, ..limits };
+    let (mut decoder, mut composer) = (Decoder::new(Global, limits).unwrap(), Composer::new(Global, ALL));
+    let (mut rest, mut at, mut taken) = (stream, 0, 0);
+    while let Step::Event { used, event, .. } = decoder.next(rest) {
+        rest = &rest[used..];
+        if let Event::End { .. } = event {
+            break;
+        }
+        taken += usize::from(at != without && taken < most && composer.take(&event).is_ok());
+        at += 1;
+    }
+    (composer.misfit().unwrap(), taken)
+}
+
+/// Of the first frame of each stream without one of its events a composer names an event behind it. Those before the one that is named all fit, and with
+/// it they do not.
+#[test]
+fn events_that_do_not_fit() {
+    let mut misfits = 0;
+    for stream in streams() {
+        let (all, count) = named(stream.limits, &stream.bytes, usize::MAX, usize::MAX);
+        assert_eq!(all, count);
+        for without in 1..count {
+            let (misfit, taken) = named(stream.limits, &stream.bytes, without, usize::MAX);
+            assert_eq!((without <= misfit, misfit <= taken, taken), (true, true, count - 1));
+            assert_eq!(named(stream.limits, &stream.bytes, without, misfit), (misfit, misfit));
+            if misfit < taken {
+                assert_eq!(named(stream.limits, &stream.bytes, without, misfit + 1), (misfit, misfit + 1));
+                misfits += 1;
+            }
+        }
+    }
+    assert!(misfits > 300, "{misfits}");
+    assert_eq!(Composer::new(Global, ALL).misfit(), Ok(0));
+}
+
 /// A frame that is given up leaves nothing; one that is closed has the length of its fields, whatever its header says.
 #[test]
 fn frames_given_up_and_closed() {

@@ -13,7 +13,8 @@ const MOST: usize = 24;
 /// The events are not written, and nothing was.
 #[derive(Clone, Copy, Debug, PartialEq, Eq)]
 pub struct EncodeError {
-    /// Which event it is, from 0; none where it is no one, but all together.
+    /// Which event it is, from 0; none where it is no one, but all together. With [`Code::NoSuchFrame`] it is the first that does not fit those before it, and
+    /// none where all fit and others are due after them.
     pub index: Option<usize>,
     /// Why.
     pub code: Code,

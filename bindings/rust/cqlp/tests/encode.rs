@@ -266,13 +266,21 @@ fn events_changed_at_random() {
 
 /// The error names an event, but where all are refused together.
 fn must_name(error: &EncodeError, events: &[Event<'_>]) {
-    assert_eq!(error.index.is_none(), error.code == Code::NoSuchFrame);
-    if let Some(index) = error.index {
-        assert!(index < events.len());
-        // those before it have no fault of their own
-        if let Err(before) = encode(&events[..index]) {
-            assert!(before.index.is_none(), "{before} and {error}");
-        }
+    let Some(index) = error.index else {
+        return assert_eq!(error.code, Code::NoSuchFrame);
+    };
+    assert!(index < events.len());
+    let is_misfit = error.code == Code::NoSuchFrame;
+    // those before it have no fault of their own, but that one may not fit where an event is refused alone
+    if let Err(before) = encode(&events[..index]) {
+        let fits = before.index.is_none();
+        assert!(
+            fits || !is_misfit && before.code == Code::NoSuchFrame,
+            "{before} and {error}"
+        );
+    }
+    if is_misfit {
+        assert_eq!(encode(&events[..=index]).as_ref(), Err(error));
     }
 }
 
@@ -337,16 +345,16 @@ fn what_is_refused() {
         (
             1,
             What::Uuid(Field::TraceId, [0; 16]),
-            None,
+            Some(1),
             Code::NoSuchFrame,
-            "the events together: NoSuchFrame",
+            "event 1: NoSuchFrame",
         ),
         (
             3,
             What::Byte(Field::QueryFlags, 4),
-            None,
+            Some(4),
             Code::NoSuchFrame,
-            "the events together: NoSuchFrame",
+            "event 4: NoSuchFrame",
         ),
     ] {
         let mut events = query();

@@ -124,6 +124,23 @@ impl FrameBuilder {
         closed
     }
 
+    /// Which event of the frame under way is the first that does not fit, counted from its header, which is 0: those before it are the first events
+    /// of some frame, whose body may be of any length, and with it they are those of none. Where all fit it is how many were taken, since others
+    /// are due after them or the body is too long; so it is for a frame that [`FrameBuilder::close`] does not refuse. It is between frames then.
+    ///
+    /// # Errors
+    ///
+    /// [`BuildError::NoMemory`] where memory was refused.
+    pub fn misfit(&mut self) -> Result<usize, BuildError> {
+        let Some(header) = self.header else {
+            self.clear();
+            return Ok(0);
+        };
+        let at = self.held.misfit(&header);
+        self.clear();
+        at
+    }
+
     /// Whether it is between frames. Where a stream ends and it is not, the last frame was cut.
     #[must_use]
     pub fn is_between(&self) -> bool {
@@ -312,7 +329,7 @@ fn is_length(announced: u32, len: u32, extra: u32) -> bool {
 }
 
 /// Whether a header is a response's where its opcode is one of a response.
-fn is_directed(header: &Header) -> bool {
+pub(crate) fn is_directed(header: &Header) -> bool {
     let answers = header.opcode.is_response();
     if header.response { answers } else { !answers }
 }

@@ -10,6 +10,7 @@ mod item;
 mod lists;
 mod messages;
 mod metadata;
+mod misfit;
 mod nesting;
 mod pages;
 mod requests;

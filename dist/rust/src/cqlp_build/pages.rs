@@ -3,7 +3,7 @@
 
 use crate::kit_std::prelude::{Vec};
 use crate::cqlp_build::held::{Fault, FrameEvents};
-use crate::cqlp_build_cells::{CellError, ends};
+use crate::cqlp_build_cells::{CellError, Step, ends};
 use crate::cqlp_kind::Kind;
 use crate::cqlp_message::{Metadata, Rows};
 use crate::cqlp_note::Field;
@@ -68,6 +68,7 @@ impl FrameEvents {
     /// Takes the cell of a row and a column, which is of this type.
     fn cell(&mut self, row: u32, column: u32, tree: &TypeTree) -> Value {
         if !self.gather(row, column) {
+            self.take_front(tree);
             self.refuse(Fault::NoFrame);
             return Value::Null;
         }
@@ -94,6 +95,21 @@ impl FrameEvents {
             }
         }
         false
+    }
+
+    /// Takes of a cell that did not come whole the events that are the first ones of a value of this type, and the one after them.
+    fn take_front(&mut self, tree: &TypeTree) {
+        if self.fault.is_some() {
+            return;
+        }
+        // No value is around as many, so it is the first event of none, and is taken where all others were those of one.
+        if self.cell.push(u32::MAX, Step::Null).is_err() {
+            self.refuse(Fault::NoMemory);
+            return;
+        }
+        if let Err(CellError::NoMemory) = self.cell.whole(tree) {
+            self.refuse(Fault::NoMemory);
+        }
     }
 }
 

@@ -74,6 +74,11 @@ impl CellEvents {
         self.items.is_empty()
     }
 
+    /// How many are left.
+    pub fn how_many(&self) -> usize {
+        self.items.len()
+    }
+
     /// Takes the end of a value at this level, after this many items.
     pub fn leave(&mut self, level: usize, count: usize) {
         let next = self.next(level);

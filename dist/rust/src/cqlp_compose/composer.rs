@@ -95,6 +95,20 @@ impl Composer {
         builder.close()
     }
 
+    /// Which of these events is the first that does not fit, counted from the header, which is 0, as [`FrameBuilder::misfit`] answers it. Where all fit it
+    /// is how many came, without the end.
+    ///
+    /// # Errors
+    ///
+    /// [`BuildError::NoMemory`] where memory was refused.
+    pub fn misfit(self) -> Result<usize, BuildError> {
+        let Composer {
+            mut builder,
+            ended: _,
+        } = self;
+        builder.misfit()
+    }
+
     /// Writes the frame that has these events: 9 to 268,435,465 bytes.
     ///
     /// # Errors

@@ -1,0 +1,81 @@
+// Written by dist/erase from crates/cqlp_build/src/misfit.rt.
+//! Which of the events that are held is the first that does not fit.
+
+use crate::cqlp_build::builder::is_directed;
+use crate::cqlp_build::error::BuildError;
+use crate::cqlp_build::held::{Fault, FrameEvents};
+use crate::cqlp_build::item::{Content, Item};
+use crate::cqlp_build_cells::Step;
+use crate::cqlp_kind::Kind;
+use crate::cqlp_note::{Field, Header};
+
+impl FrameEvents {
+    /// How many events come before the first that does not fit, of this header and those that are held: the next after those of any frame's.
+    pub fn misfit(&mut self, header: &Header) -> Result<usize, BuildError> {
+        if !is_directed(header) {
+            return Ok(0);
+        }
+        let possible = self.possible();
+        if self.items.push_back(no_item()).is_err() {
+            return Err(BuildError::NoMemory);
+        }
+        let all = self.items.len();
+        let Some(left) = self.left_of(header) else {
+            return Err(BuildError::NoMemory);
+        };
+        let fitting = all.saturating_sub(left);
+        if possible < fitting {
+            return Ok(possible + 1);
+        }
+        Ok(fitting)
+    }
+
+    /// How many events are left after those that fit, the first of them taken, where the last one that is held fits nowhere; None where memory was
+    /// refused.
+    fn left_of(&mut self, header: &Header) -> Option<usize> {
+        self.cell.clear();
+        self.fault = None;
+        drop(self.frame(header));
+        let left = self.items.len();
+        match self.fault {
+            Some(Fault::NoMemory) => None,
+            Some(Fault::NoFrame) => Some(left.saturating_add(self.cell.how_many())),
+            None => Some(left.saturating_sub(1)),
+        }
+    }
+
+    /// How many events come before the first that is in no frame.
+    fn possible(&self) -> usize {
+        for (at, item) in self.items.iter().enumerate() {
+            if is_impossible(item) {
+                return at;
+            }
+        }
+        self.items.len()
+    }
+}
+
+/// What comes next in no frame.
+fn no_item() -> Item {
+    Item::Holds(Field::Rows, Content::Byte(0))
+}
+
+/// Whether a field holds more than its notation has room for, or a value that has no bytes begins.
+fn is_impossible(item: &Item) -> bool {
+    match item {
+        Item::Cell {
+            step: Step::Enter(Kind::Tuple | Kind::Udt, 0),
+            ..
+        } => true,
+        Item::Holds(Field::Query, _) => false,
+        Item::Holds(Field::Rows | Field::Columns | Field::Keys, Content::Count(count)) => {
+            *count > i32::MAX as u32
+        }
+        Item::Holds(_, Content::Count(count)) => *count > u32::from(u16::MAX),
+        Item::Holds(_, Content::Text(text)) => text.len() > usize::from(u16::MAX),
+        Item::Holds(Field::StatementId, Content::Bytes(Some(id))) => {
+            id.len() > usize::from(u16::MAX)
+        }
+        _ => false,
+    }
+}
