@@ -1,6 +1,6 @@
 //! A command line, and what it writes and answers.
 use super::fakes::{Narrow, Pieces};
-use crate::cqlp_note::Source;
+use crate::cqlp_capture_streams::CaptureInput;
 use crate::cqlp_tool::command;
 use crate::kit_host::prelude::HostRuntime;
 
@@ -45,7 +45,7 @@ impl<'a> Invocation<'a> {
     }
 
     /// With this standard input, and room for this many bytes in each output.
-    pub fn done(&self, input: &mut impl Source, out: usize, err: usize) -> Done {
+    pub fn done(&self, input: &mut impl CaptureInput, out: usize, err: usize) -> Done {
         Done::of(command(&HostRuntime, &self.words, input, Narrow::new(out, 7), Narrow::new(err, 7)))
     }
 }

@@ -1,4 +1,5 @@
 //! Readers that give pieces or fail, and writers that take little or fail.
+use crate::cqlp_capture_streams::CaptureInput;
 use crate::cqlp_note::{IoFault, Source, Target};
 use std::cell::Cell;
 
@@ -56,6 +57,10 @@ impl Source for Looks<'_> {
         self.pieces.read(room)
     }
 }
+
+impl CaptureInput for Pieces<'_> {}
+
+impl CaptureInput for Looks<'_> {}
 
 /// Takes at most `size` bytes a call, up to some number in all, and then fails.
 pub struct Narrow {
