@@ -1,5 +1,5 @@
 -- What is reported, one thing after the other.
-use Rattle.std.proofs.Common.{◌≡◌, ◌∙◌, ℕ, Bool, true, false, List, [], ◌∷◌, ◌++◌, if◌then◌else◌, Option, Some, None, IsSome, Result, Ok, Err, IsErr, refl, sym, ap, subst, append_assoc}
+use Rattle.std.proofs.Common.{◌≡◌, ◌∙◌, ℕ, Bool, true, false, List, [], ◌∷◌, ◌++◌, if◌then◌else◌, Option, Some, None, IsSome, Result, Ok, Err, refl, sym, ap, subst, append_assoc}
 use Rattle.std.specs.Io.KnownBytes.{append_known}
 use Rattle.cqlp_grammar.specs.declared.sink.SinkFault.{SinkFault}
 use Rattle.cqlp_text.specs.Outputs.{Output, WritesText, output, with_text}
@@ -14,7 +14,7 @@ use Rattle.cqlp_capture_exchanges.specs.declared.form.ExchangeForm.{ExchangeForm
 use Rattle.cqlp_capture_exchanges.specs.Prepared.{Preparation}
 use Rattle.cqlp_capture_exchanges.specs.Reports.{Report}
 use Rattle.cqlp_capture_exchanges.specs.declared.sums.ExchangeSums.{ExchangeSums}
-use Rattle.cqlp_capture_exchanges.specs.Accounts.{Account, EndsAmong, FailsAmong, Finishes, Stops, StopsAmong, ReportsOne, ReportsAll, account, learned, with_all, with_report, with_shown, with_reported}
+use Rattle.cqlp_capture_exchanges.specs.Accounts.{Account, FailsAmong, Finishes, Stops, ReportsOne, ReportsAll, account, with_all, with_report, with_shown, with_reported}
 use Rattle.cqlp_capture_exchanges.specs.Filters.{shows}
 use Rattle.cqlp_capture_exchanges.specs.Forms.{ending_of, noted_in, text_of}
 

@@ -9,7 +9,6 @@ use Rattle.cqlp_capture_streams.specs.declared.fault.StreamsFault.TheVariants as
 use Rattle.cqlp_capture_streams.specs.Captures.{ReadsMade}
 use Rattle.cqlp_capture_streams.specs.ConnectionEvents.{ConnectionEvent, Packet, New, Of, Left}
 use Rattle.cqlp_capture_streams.specs.Streams.{ReadsCapture}
-use Rattle.cqlp_capture_streams.specs.Buffers.{Buffers}
 use Rattle.cqlp_capture_streams.proofs.Finished.{buffered_cause}
 use Rattle.cqlp_capture_streams.proofs.Causes.{EndedBy, EndedIfFault, FailsSo, ended_noted, fault_cause, none_failed}
 use Rattle.cqlp_capture_exchanges.specs.declared.connection.Connection.{Connection}

@@ -7,7 +7,6 @@ use Rattle.cqlp_capture_streams.specs.declared.fault.StreamsFault.{StreamsFault}
 use Rattle.cqlp_capture_streams.specs.declared.fault.StreamsFault.TheVariants as fault
 use Rattle.cqlp_capture_streams.specs.declared.limits.StreamsLimits.{StreamsLimits}
 use Rattle.cqlp_capture_streams.specs.Captures.{ReadsMade}
-use Rattle.cqlp_capture_streams.specs.ConnectionEvents.{ConnectionEvent}
 use Rattle.cqlp_capture_streams.proofs.Keeping.{kept}
 use Rattle.cqlp_observer.specs.declared.missed.Missed.{Missed}
 use Rattle.cqlp_capture_exchanges.specs.declared.connection.Connection.{Connection}

@@ -1,13 +1,11 @@
 -- The pools are the sums over the connections.
-use Rattle.std.proofs.Common.{inl, inr, ◌≡◌, ℕ, zero, suc, ◌+◌, ◌-◌, ◌<◌, ◌≤◌, ◌==◌, ◌&&◌, Bool, true, false, List, [], ◌∷◌, length, drop, refl, sym, ap, subst, ◌∙◌, arith, Option, Some, None}
-use Rattle.std.specs.Prelude.{max, min, sum_by}
-use Rattle.std.specs.declared.cmp.Ordering.{Ordering}
-use Rattle.std.specs.declared.cmp.Ordering.TheVariants.{Less, Equal, Greater}
+use Rattle.std.proofs.Common.{inl, inr, ◌≡◌, ℕ, zero, suc, ◌+◌, ◌-◌, ◌≤◌, ◌==◌, ◌&&◌, Bool, List, [], ◌∷◌, length, drop, refl, sym, ap, subst, arith, Option, Some, None}
+use Rattle.std.specs.Prelude.{sum_by}
 use Rattle.std.specs.List.{AllByRecursion}
 use Rattle.std.specs.List.Sorted.{IsStrictlySortedBy}
 use Rattle.std.specs.BTreeMap.{insert_entry, is_at}
 use Rattle.std.specs.Cmp.{nat_cmp_total}
-use Rattle.std.specs.Map.{keys_of, lookup, remove_entry, set_value, values_of}
+use Rattle.std.specs.Map.{lookup, remove_entry, set_value, values_of}
 use Rattle.std.specs.Ordering.{nat_cmp}
 use Rattle.std.proofs.lemmas.Bool.{cases_Bool}
 use Rattle.std.proofs.lemmas.List.Sums.{sum_by-cons}
@@ -26,7 +24,7 @@ use Rattle.cqlp_capture_exchanges.specs.Pooled.{AreNumbers, GetsWhatIsLeft, IsPo
 use Rattle.cqlp_capture_exchanges.specs.Pools.{amount, held_in, room_for}
 use Rattle.cqlp_capture_exchanges.specs.Tables.{Table, becomes, begins, gone, leaves, leaves_at, new_table, slot_of, takes_delivery, takes_delivery_at}
 use Rattle.cqlp_capture_exchanges.specs.Reports.{end_of}
-use Rattle.cqlp_capture_exchanges.specs.Talks.{Slot, Talk, all_heard, bytes_heard, is_responses, left, new_slot, step_heard, steps_for, stepped, delivery_heard}
+use Rattle.cqlp_capture_exchanges.specs.Talks.{Slot, Talk, all_heard, is_responses, left, new_slot, step_heard, steps_for, stepped, delivery_heard}
 
 -- ---- a sum over the values of a map
 

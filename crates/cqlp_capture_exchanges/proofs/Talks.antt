@@ -1,6 +1,5 @@
 -- What bytes hold, step by step.
-use Rattle.std.proofs.Common.{◌≡◌, ◌∙◌, ◌-◌, ◌<◌, ◌&&◌, ◌==◌, length, ℕ, zero, suc, Bool, true, false, List, [], ◌∷◌, ◌++◌, drop, if◌then◌else◌, Option, Some, None, IsSome, Result, Ok, Err, refl, sym, ap, subst, append_assoc, append-nil, take, ◌≤◌, arith}
-use Rattle.std.proofs.lemmas.Grind.{common_steps}
+use Rattle.std.proofs.Common.{◌≡◌, ◌∙◌, ◌-◌, ◌<◌, ◌&&◌, ◌==◌, length, ℕ, zero, suc, Bool, true, false, List, [], ◌∷◌, ◌++◌, drop, if◌then◌else◌, Option, Some, None, IsSome, Result, Err, refl, sym, ap, subst, append_assoc, append-nil, ◌≤◌, arith}
 use Rattle.cqlp_observer.specs.declared.room.WatchRoom.{WatchRoom}
 use Rattle.cqlp_observer.specs.declared.paired.Paired.{Paired}
 use Rattle.cqlp_observer.specs.Keeping.{Kept}
@@ -11,8 +10,8 @@ use Rattle.cqlp_capture_streams.specs.declared.fault.StreamsFault.TheVariants as
 use Rattle.cqlp_capture_exchanges.specs.declared.connection.Connection.{Connection}
 use Rattle.cqlp_capture_exchanges.specs.declared.report.ConnectionEnd.{ConnectionEnd}
 use Rattle.cqlp_capture_exchanges.specs.Accounts.{Account, FailsAmong, ReportsAll, with_all}
-use Rattle.cqlp_capture_exchanges.specs.Reports.{Report, Messages, messages, of_step}
-use Rattle.cqlp_capture_exchanges.specs.Talks.{Slot, Talk, all_heard, before, ended as both_ended, left, remaining, slot, stepped, talk}
+use Rattle.cqlp_capture_exchanges.specs.Reports.{Report, Messages, of_step}
+use Rattle.cqlp_capture_exchanges.specs.Talks.{Slot, Talk, all_heard, before, ended as both_ended, left, remaining, stepped, talk}
 use Rattle.cqlp_capture_exchanges.proofs.Accounts.{fails_after, fails_first, known_after, refused_after, still_known, reports_more, with_others}
 
 -- what a step reports, and those after it

@@ -1,5 +1,5 @@
 -- What listens to the events of the connections of a capture, and writes their exchanges.
-use Rattle.std.specs.Prelude.{◌≡◌, ℕ, List, [], Option, Some, None, Result, Ok, Err}
+use Rattle.std.specs.Prelude.{◌≡◌, ℕ, [], Option, None, Result, Ok, Err}
 use Rattle.cqlp_text.specs.Outputs.{Output}
 use Rattle.cqlp_capture_summary.specs.Summaries.{new_summary}
 use Rattle.cqlp_capture_streams.specs.declared.fault.StreamsFault.{StreamsFault}

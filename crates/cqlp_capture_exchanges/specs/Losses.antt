@@ -1,6 +1,5 @@
 -- What a capture did not have, or was given up, in words.
 use Rattle.std.specs.Prelude.{ℕ, ◌/◌, ◌==◌, Bool, ◌||◌, nat_lt, List, [], ◌∷◌, codes, decimal, Result, Ok, Err, if◌then◌else◌}
-use Rattle.std.specs.List.{flat_map}
 use Rattle.cqlp_observer.specs.declared.missed.Missed.{Missed}
 use Rattle.cqlp_capture_streams.specs.declared.capturing.CaptureRead.{CaptureRead}
 use Rattle.cqlp_capture_streams.specs.declared.fault.StreamsFault.{StreamsFault}

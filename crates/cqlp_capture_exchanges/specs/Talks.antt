@@ -1,5 +1,5 @@
 -- What is reported of a connection, by what its streams deliver.
-use Rattle.std.specs.Prelude.{ℕ, zero, suc, ◌+◌, ◌*◌, ◌==◌, ◌&&◌, ◌||◌, Bool, true, false, List, [], ◌∷◌, ◌++◌, map, length, drop, Option, Some, None, if◌then◌else◌}
+use Rattle.std.specs.Prelude.{ℕ, zero, suc, ◌+◌, ◌*◌, ◌==◌, ◌&&◌, ◌||◌, Bool, true, false, List, [], ◌++◌, map, length, drop, Option, Some, None, if◌then◌else◌}
 use Rattle.cqlp_tcp_reassembly.specs.declared.step.StreamStep.{StreamStep}
 use Rattle.cqlp_tcp_reassembly.specs.declared.step.StreamStep.TheVariants as step
 use Rattle.cqlp_tcp_connections.specs.declared.ends.Way.{Way}

@@ -1,5 +1,5 @@
 -- Bytes that a target is given in blocks.
-use Rattle.std.specs.Prelude.{◌≡◌, ◌≤◌, ℕ, true, List, ◌∷◌, [], length, Option, Result, Ok, Err, IsSome}
+use Rattle.std.specs.Prelude.{◌≡◌, ◌≤◌, ℕ, true, List, [], length, Option, Result, Ok, Err, IsSome}
 use Rattle.std.specs.Io.KnownBytes.{append_known}
 use Rattle.cqlp_note.specs.declared.streams.IoFault.{IoFault}
 use Rattle.cqlp_note.specs.Outputs.{Output, output}

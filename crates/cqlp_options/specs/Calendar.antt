@@ -1,5 +1,5 @@
 -- Times of the calendar, in UTC, as 2026-11-29T10:15:30.25Z. ISO 8601, and RFC 3339, section 5.6.
-use Rattle.std.specs.Prelude.{◌≡◌, ℕ, ◌+◌, ◌-◌, ◌*◌, ◌≤◌, ◌++◌, ◌⊎◌, ℤ, pos, true, List, [], ◌∷◌, Some, drop, length, slice_index, take}
+use Rattle.std.specs.Prelude.{◌≡◌, ℕ, ◌+◌, ◌-◌, ◌*◌, ◌≤◌, ◌++◌, ◌⊎◌, ℤ, pos, true, List, [], ◌∷◌, Some, drop, slice_index, take}
 use Rattle.jiff_core.specs.Date.{epoch_day}
 use Rattle.jiff_core.specs.declared.civil.date.Date.{Date}
 use Rattle.cqlp_options.specs.Seconds.{is_digit, with_places}

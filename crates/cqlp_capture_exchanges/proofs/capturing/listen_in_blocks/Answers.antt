@@ -1,4 +1,4 @@
-use Rattle.std.proofs.Common.{IsSome, subst, inr}
+use Rattle.std.proofs.Common.{subst, inr}
 use Rattle.cqlp_text.specs.Outputs.{Output}
 use Rattle.cqlp_capture_streams.specs.Blocks.{whole_of}
 use Rattle.cqlp_capture_exchanges.specs.Capturing.{Listens}

@@ -1,4 +1,4 @@
-use Rattle.std.proofs.Common.{[], None, ap, refl, subst}
+use Rattle.std.proofs.Common.{[], None, refl, subst}
 use Rattle.cqlp_observer.specs.Watches.{Reporting, after_end}
 use Rattle.cqlp_capture_exchanges.specs.Accounts.{ReportedAll}
 use Rattle.cqlp_capture_exchanges.specs.Reports.{messages}

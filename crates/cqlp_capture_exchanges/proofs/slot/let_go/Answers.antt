@@ -5,7 +5,7 @@ use Rattle.cqlp_observer.specs.declared.paired.Paired.{Paired}
 use Rattle.cqlp_observer.specs.Watches.{finished, report_then}
 use Rattle.cqlp_capture_exchanges.specs.Reports.{Report, messages}
 use Rattle.cqlp_capture_exchanges.specs.Talks.{new_slot, remaining, talk}
-use Rattle.cqlp_capture_exchanges.proofs.Talks.{go_fewer, go_next, go_none, hearing_ends, hearing_goes_on, hearing_known, hearing_starts, hearing_stops, next}
+use Rattle.cqlp_capture_exchanges.proofs.Talks.{go_next, go_none, hearing_ends, hearing_goes_on, hearing_known, hearing_starts, hearing_stops, next}
 use Rattle.cqlp_capture_exchanges.proofs.slot.let_go.Goals as goal
 
 pub loop-exchange-init : goal.loop-exchange-init

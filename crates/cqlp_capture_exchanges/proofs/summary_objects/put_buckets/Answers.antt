@@ -1,5 +1,5 @@
 use Rattle.std.proofs.Common.{refl}
-use Rattle.cqlp_text.proofs.Writing.{progress_ends, progress_goes_on, progress_starts, progress_stops}
+use Rattle.cqlp_text.proofs.Writing.{progress_ends, progress_goes_on, progress_stops}
 use Rattle.cqlp_capture_exchanges.proofs.SummaryObjects.{buckets_at, no_buckets}
 use Rattle.cqlp_capture_exchanges.proofs.summary_objects.put_buckets.Goals as goal
 

@@ -1,4 +1,4 @@
-use Rattle.std.proofs.Common.{◌≡◌, true, IsSome, Result, subst, sym}
+use Rattle.std.proofs.Common.{true, IsSome, Result, subst, sym}
 use Rattle.cqlp_text.specs.Outputs.{output}
 use Rattle.cqlp_tcp_connections.specs.declared.ends.Way.TheVariants.{Responses as ByNode}
 use Rattle.cqlp_capture_streams.specs.declared.fault.StreamsFault.{StreamsFault}

@@ -1,4 +1,4 @@
-use Rattle.std.proofs.Common.{◌≡◌, IsSome, Result, subst, sym}
+use Rattle.std.proofs.Common.{IsSome, Result, subst, sym}
 use Rattle.cqlp_text.specs.Outputs.{output}
 use Rattle.cqlp_capture_streams.specs.declared.fault.StreamsFault.{StreamsFault}
 use Rattle.cqlp_capture_frames.specs.Directions.{closes}
