@@ -3,7 +3,8 @@
 ghost use Rattle.std.specs.Prelude.{◌≡◌, IfOk, IsSome, Ok, OnOk, List, ℕ, None, Some, false, length};
 ghost use Rattle.cqlp_capture.specs.Progress.{ending, new_state};
 ghost use Rattle.cqlp_capture_streams.specs.Packets.{SplitState};
-ghost use Rattle.cqlp_capture_streams.specs.Captures.{AreCounted, BeginsNext, DrainsTo, EndsTo, Has, IsAtEndOf, ReadsMade, SplitsTo, is_cut, most_read, read_counts};
+ghost use Rattle.cqlp_capture_streams.specs.Captures.{AreCounted, BeginsNext, DrainsTo, EndsTo, Has, IsAtEndOf, ReadsMade, SplitsTo};
+ghost use Rattle.cqlp_capture_streams.specs.Captures.{is_cut, most_read, read_counts};
 
 use crate::fault::StreamsFault;
 use crate::input::CaptureInput;
@@ -20,9 +21,9 @@ enum Drained {
     Refused,
 }
 
-/// Reports all events of a reader's capture, of one file or of several, from at most `turns` reads into the buffer, none of which is tried again. No read is made
-/// before the listener has got all events of the bytes read so far. At the end of the file, or where it is refused, all connections
-/// leave.
+/// Reports all events of a reader's capture, of one file or of several, from at most `turns` reads into the buffer, none of which is tried again.
+/// No read is made before the listener has got all events of the bytes read so far. At the end of the file, or where it is refused, all
+/// connections leave.
 pub(crate) fn split<R: CaptureInput, L: Listener, A: Allocator, B: Allocator + Clone>(
     reader: &mut CaptureReader<A>,
     splitter: &mut Splitter<B>,
@@ -66,7 +67,8 @@ fn begin_next<R: CaptureInput, A: Allocator, B: Allocator>(
     splitter: &mut Splitter<B>,
     input: &mut R,
 ) -> Result<bool, StreamsFault>
-    ensures one { IsSome (R.left input.old) → (result ≡ Ok false) × (input.new ≡ input.old) × (reader.new ≡ reader.old) × (splitter.new ≡ splitter.old) }
+    ensures one { IsSome (R.left input.old) →
+        (result ≡ Ok false) × (input.new ≡ input.old) × (reader.new ≡ reader.old) × (splitter.new ≡ splitter.old) }
     ensures begun { IfOk result (λ is_begun. BeginsNext is_begun reader.old splitter.old reader.new splitter.new) }
     ensures reads { R.reads input.new ≡ R.reads input.old }
     ensures failures { R.failures input.new ≡ R.failures input.old }

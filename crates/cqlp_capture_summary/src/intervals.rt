@@ -3,7 +3,8 @@
 ghost use Rattle.std.specs.Prelude.{◌≡◌, ◌≤◌, max, None, Some};
 ghost use Rattle.cqlp_text.specs.Written.{Writes};
 ghost use Rattle.cqlp_capture_summary.specs.Counts.{request_of};
-ghost use Rattle.cqlp_capture_summary.specs.Intervals.{begin_of, begin_text, interval_header, interval_line, interval_of, interval_text, is_later, is_over, open_for};
+ghost use Rattle.cqlp_capture_summary.specs.Intervals.{begin_of, begin_text, interval_header, interval_line, interval_of, interval_text};
+ghost use Rattle.cqlp_capture_summary.specs.Intervals.{is_later, is_over, open_for};
 ghost use Rattle.cqlp_capture_summary.specs.Intervals.{rate_column, second_text, tallied_in_interval};
 
 use crate::columns::put_number_column;

@@ -32,8 +32,8 @@ pub struct CaptureRead {
 }
 
 impl CaptureRead {
-    /// Whether some of it was not read, or a file before the last was cut, or packets came later than the window, or bytes that came early were given up, or connections had
-    /// to make room for others, or all segments went to other ports.
+    /// Whether some of it was not read, or a file before the last was cut, or packets came later than the window, or bytes that came early were
+    /// given up, or connections had to make room for others, or all segments went to other ports.
     pub fn has_losses(&self) -> bool {
         self.packets.skipped.has_some()
             || self.packets.cut_files > 0
@@ -44,10 +44,10 @@ impl CaptureRead {
     }
 }
 
-/// Has a listener take all events of the connections in a capture, in one file or in several, of nodes that listen on these ports, out of at most 2^32 reads. There are
-/// at most as many connections at one time, with as many bytes that came early, as the limits say. Packets are put in the order of their
-/// times within the window that the limits say. No read is made before the listener has taken all events of the bytes read so far, but for
-/// packets that wait. At the end of the file, or where it is refused, those leave, and then all connections.
+/// Has a listener take all events of the connections in a capture, in one file or in several, of nodes that listen on these ports, out of at
+/// most 2^32 reads. There are at most as many connections at one time, with as many bytes that came early, as the limits say. Packets are put
+/// in the order of their times within the window that the limits say. No read is made before the listener has taken all events of the bytes
+/// read so far, but for packets that wait. At the end of the last file, or where one is refused, those leave, and then all connections.
 ///
 /// After a fault nothing more is read, and the listener gets nothing more.
 pub(crate) fn read_capture<R: CaptureInput, L: Listener>(

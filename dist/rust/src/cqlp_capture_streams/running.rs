@@ -17,9 +17,9 @@ enum Drained {
     Refused,
 }
 
-/// Reports all events of a reader's capture, of one file or of several, from at most `turns` reads into the buffer, none of which is tried again. No read is made
-/// before the listener has got all events of the bytes read so far. At the end of the file, or where it is refused, all connections
-/// leave.
+/// Reports all events of a reader's capture, of one file or of several, from at most `turns` reads into the buffer, none of which is tried again.
+/// No read is made before the listener has got all events of the bytes read so far. At the end of the file, or where it is refused, all
+/// connections leave.
 pub(crate) fn split<R: CaptureInput, L: Listener, A: Allocator, B: Allocator + Clone>(
     reader: &mut CaptureReader<A>,
     splitter: &mut Splitter<B>,

@@ -115,8 +115,8 @@ fn stream<R: Files + AllocGlobal, I: Source, O: Target, E: Target>(
     }
 }
 
-/// Opens the files of a capture, and does the task with them. Of a regular file lines are written in blocks; of standard input and any other file, as a pipe, at
-/// once. Where files are long, `notes` gets how much of them was read.
+/// Opens the files of a capture, and does the task with them. Of a regular file lines are written in blocks; of standard input and any other
+/// file, as a pipe, at once. Where files are long, `notes` gets how much of them was read.
 fn capture<R: Files + AllocGlobal, I: CaptureInput, O: Target, E: Target, N: Target>(
     rt: &R,
     options: CaptureOptions<'_>,
@@ -156,11 +156,21 @@ fn capture<R: Files + AllocGlobal, I: CaptureInput, O: Target, E: Target, N: Tar
 /// The first of these files that cannot be opened.
 fn missing_file<'a, R: Files>(rt: &R, paths: &[&'a str]) -> Option<&'a str> {
     for path in paths {
-        let Ok(_) = File::open(rt, *path) else {
+        if !is_found(rt, *path) {
             return Some(*path);
-        };
+        }
     }
     None
+}
+
+/// Whether a regular file can be opened, or there is another one, as a pipe. That is not opened before its turn, since who writes to it would lose
+/// its reader.
+fn is_found<R: Files>(rt: &R, path: &str) -> bool {
+    match fs::metadata(rt, path) {
+        Ok(metadata) if metadata.is_file() => File::open(rt, path).is_ok(),
+        Ok(_) => true,
+        Err(_) => false,
+    }
 }
 
 /// The folder that a task with a capture asks for, if there is none with this path.
