@@ -3,9 +3,11 @@
 
 The lines of the files have to be those of the one file that they were split from, wherever it is split; what the last line says is another verdict, since
 that is of the last file, and how many files came after the first."""
+import os
 import re
 import subprocess
 import sys
+import threading
 from pathlib import Path
 
 PORTS = ['--port', '36401', '--port', '40971']
@@ -35,7 +37,7 @@ def split(capture, sizes, folder):
 
 
 def ran(program, files, *words):
-    done = subprocess.run([program, 'capture', *PORTS, *words, *files], stdin=subprocess.DEVNULL, capture_output=True)
+    done = subprocess.run([program, 'capture', *PORTS, *words, *files], stdin=subprocess.DEVNULL, capture_output=True, timeout=60)
     return done.returncode, done.stdout.decode(), done.stderr.decode()
 
 
@@ -107,6 +109,22 @@ def refused_file(program, data, room):
     one, both = ran(program, [data / 'driver.pcap']), ran(program, [data / 'driver.pcap', other, data / 'driver.pcap'])
     if both[:2] != (1, one[1]) or not both[2].startswith('refused 0 UnknownMagic ') or not both[2].endswith(' MoreFiles 1\n'):
         print(both)
+
+
+def pipes(program, data, room):
+    """A pipe among several files is opened once, when its turn comes, however long what is written to it."""
+    capture = (data / 'driver.pcap').read_bytes()
+    long, pipe = room / 'long.pcap', room / 'pipe'
+    long.write_bytes(capture[:HEADER] + b''.join(packets(capture)) * 200)
+    os.mkfifo(pipe)
+    whole = ran(program, [data / 'driver.pcap', long])
+    for _ in range(5):
+        writer = threading.Thread(target=pipe.write_bytes, args=[long.read_bytes()], daemon=True)
+        writer.start()
+        compare('a pipe', whole, ran(program, [data / 'driver.pcap', pipe]), 1)
+        writer.join(10)
+        if writer.is_alive():
+            print('the pipe is not read to its end')
 
 
 def streams(program, data, room):
