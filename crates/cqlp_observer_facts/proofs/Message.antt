@@ -27,7 +27,7 @@ use Rattle.cqlp_observer_facts.specs.Numbers.{byte, int, short, signed_int}
 use Rattle.cqlp_observer_facts.specs.Queries.{flags_following, page_size_due, query_following, values_due}
 use Rattle.cqlp_observer_facts.specs.Reading.{after_byte, before, filled, gone_on, is_announced, is_before, passed, taken, waiting}
 use Rattle.cqlp_observer_facts.specs.Types.{columns_of, types_next, with_fields, with_types}
-use Rattle.cqlp_observer_facts.specs.Rows.{after_option, columns_due, due_of, fields_within, is_plain, names_due, paged_columns_due, rows_following, types_due, udt_due}
+use Rattle.cqlp_observer_facts.specs.Rows.{after_option, columns_due, due_of, fields_within, has_more_pages, is_plain, names_due, paged_columns_due, rows_following, types_due, udt_due}
 use Rattle.cqlp_observer_facts.proofs.Pieces.{lies}
 
 -- ---- fields of the message proper behind its first
@@ -119,7 +119,7 @@ columns_within flags n =
 
 paged_within : (flags n : ℕ) → IsWithin (paged_columns_due flags n)
 paged_within flags n =
-    either (has flags 0x02) (due.Rows (rows.PagingState flags n)) (columns_due flags n) refl (columns_within flags n)
+    either (has_more_pages flags) (due.Rows (rows.PagingState flags n)) (columns_due flags n) refl (columns_within flags n)
 
 option_within : (id : ℕ) (t : Types) → IsWithin (after_option id t)
 option_within id t =

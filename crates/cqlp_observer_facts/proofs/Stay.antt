@@ -21,34 +21,50 @@ known None said x e = absurd (cc e)
 then : {A : Type 0} (a b c : Option A) → IsKept a b → IsKept b c → IsKept a c
 then a b c f g x e = g x (f x e)
 
-all : {f g : Facts} → IsKept f.consistency g.consistency → IsKept f.page_size g.page_size → IsKept f.trace_id g.trace_id → IsKept f.warnings g.warnings → IsKept f.result g.result → IsKept f.error g.error → IsKept f.rows g.rows → IsKept f.columns g.columns → AreKept f g
-all consistency page_size trace_id warnings result error rows columns =
-    record { consistency = consistency; page_size = page_size; trace_id = trace_id; warnings = warnings; result = result; error = error; rows = rows; columns = columns }
+all : {f g : Facts} → IsKept f.consistency g.consistency → IsKept f.page_size g.page_size
+    → IsKept f.has_paging_state g.has_paging_state → IsKept f.trace_id g.trace_id → IsKept f.warnings g.warnings → IsKept f.result g.result → IsKept f.error g.error → IsKept f.rows g.rows
+    → IsKept f.columns g.columns → IsKept f.has_more_pages g.has_more_pages → AreKept f g
+all consistency page_size has_paging_state trace_id warnings result error rows columns has_more_pages = record {
+  consistency = consistency;
+  page_size = page_size;
+  has_paging_state = has_paging_state;
+  trace_id = trace_id;
+  warnings = warnings;
+  result = result;
+  error = error;
+  rows = rows;
+  columns = columns;
+  has_more_pages = has_more_pages;
+}
 
 all_same : (f : Facts) → AreKept f f
-all_same f = all (same _) (same _) (same _) (same _) (same _) (same _) (same _) (same _)
+all_same f = all (same _) (same _) (same _) (same _) (same _) (same _) (same _) (same _) (same _) (same _)
 
 all_then : (f g h : Facts) → AreKept f g → AreKept g h → AreKept f h
 all_then f g h a b = record {
   consistency = then f.consistency g.consistency h.consistency a.consistency b.consistency;
   page_size = then f.page_size g.page_size h.page_size a.page_size b.page_size;
+  has_paging_state = then f.has_paging_state g.has_paging_state h.has_paging_state a.has_paging_state b.has_paging_state;
   trace_id = then f.trace_id g.trace_id h.trace_id a.trace_id b.trace_id;
   warnings = then f.warnings g.warnings h.warnings a.warnings b.warnings;
   result = then f.result g.result h.result a.result b.result;
   error = then f.error g.error h.error a.error b.error;
   rows = then f.rows g.rows h.rows a.rows b.rows;
   columns = then f.columns g.columns h.columns a.columns b.columns;
+  has_more_pages = then f.has_more_pages g.has_more_pages h.has_more_pages a.has_more_pages b.has_more_pages;
 }
 
 with_one : (said : Fact) (f : Facts) → AreKept f (with_fact said f)
-with_one (fact.Consistency said) f = all (known _ said) (same _) (same _) (same _) (same _) (same _) (same _) (same _)
-with_one (fact.PageSize said) f = all (same _) (known _ said) (same _) (same _) (same _) (same _) (same _) (same _)
-with_one (fact.TraceId said) f = all (same _) (same _) (known _ said) (same _) (same _) (same _) (same _) (same _)
-with_one (fact.Warnings said) f = all (same _) (same _) (same _) (known _ said) (same _) (same _) (same _) (same _)
-with_one (fact.Result said) f = all (same _) (same _) (same _) (same _) (known _ said) (same _) (same _) (same _)
-with_one (fact.Error said) f = all (same _) (same _) (same _) (same _) (same _) (known _ said) (same _) (same _)
-with_one (fact.Rows said) f = all (same _) (same _) (same _) (same _) (same _) (same _) (known _ said) (same _)
-with_one (fact.Columns said) f = all (same _) (same _) (same _) (same _) (same _) (same _) (same _) (known _ said)
+with_one (fact.Consistency said) f = all (known _ said) (same _) (same _) (same _) (same _) (same _) (same _) (same _) (same _) (same _)
+with_one (fact.PageSize said) f = all (same _) (known _ said) (same _) (same _) (same _) (same _) (same _) (same _) (same _) (same _)
+with_one (fact.HasPagingState said) f = all (same _) (same _) (known _ said) (same _) (same _) (same _) (same _) (same _) (same _) (same _)
+with_one (fact.TraceId said) f = all (same _) (same _) (same _) (known _ said) (same _) (same _) (same _) (same _) (same _) (same _)
+with_one (fact.Warnings said) f = all (same _) (same _) (same _) (same _) (known _ said) (same _) (same _) (same _) (same _) (same _)
+with_one (fact.Result said) f = all (same _) (same _) (same _) (same _) (same _) (known _ said) (same _) (same _) (same _) (same _)
+with_one (fact.Error said) f = all (same _) (same _) (same _) (same _) (same _) (same _) (known _ said) (same _) (same _) (same _)
+with_one (fact.Rows said) f = all (same _) (same _) (same _) (same _) (same _) (same _) (same _) (known _ said) (same _) (same _)
+with_one (fact.Columns said) f = all (same _) (same _) (same _) (same _) (same _) (same _) (same _) (same _) (known _ said) (same _)
+with_one (fact.HasMorePages said) f = all (same _) (same _) (same _) (same _) (same _) (same _) (same _) (same _) (same _) (known _ said)
 
 with_some : (said : Option Fact) (f : Facts) → AreKept f (with_fact_if said f)
 with_some (Some said) f = with_one said f

@@ -29,6 +29,10 @@ flags_following flags =
     if has flags 0x01 then due.Query (ValueCount (record { named = has flags 0x40; paged = has flags 0x04 }))
     else page_size_due (has flags 0x04)
 
+-- The flag 08 says that there is a paging state: a page after the first is asked for.
+abbrev pub has_paging_state : (flags : ℕ) → Bool
+has_paging_state flags = has flags 0x08
+
 abbrev pub query_width : QueryField → ℕ
 query_width Consistency = 2
 query_width Flags = 1
@@ -39,7 +43,7 @@ query_width PageSize = 4
 
 abbrev pub query_following : QueryField → List ℕ → Next
 query_following Consistency b = says (fact.Consistency (short b)) (due.Query Flags)
-query_following Flags b = at (flags_following (byte b))
+query_following Flags b = says (fact.HasPagingState (has_paging_state (byte b))) (flags_following (byte b))
 query_following (ValueCount form) b = at (values_due (short b) form)
 query_following (ValueName more form) b = past (short b) (due.Query (Value more form))
 query_following (Value more form) b = past_value (int b) (values_due more form)

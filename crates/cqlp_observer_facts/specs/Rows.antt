@@ -39,10 +39,13 @@ columns_due flags n =
     else if has flags 0x01 then due.Rows (rows.Name 1 (columns_of n false))
     else types_due (columns_of n true)
 
--- The flag 02 says that there is a paging state.
+-- The flag 02 says that there is a paging state: more pages follow.
+abbrev pub has_more_pages : (flags : ℕ) → Bool
+has_more_pages flags = has flags 0x02
+
 abbrev pub paged_columns_due : (flags columns : ℕ) → Due
 paged_columns_due flags n =
-    if has flags 0x02 then due.Rows (rows.PagingState flags n) else columns_due flags n
+    if has_more_pages flags then due.Rows (rows.PagingState flags n) else columns_due flags n
 
 abbrev pub columns_following : (flags : ℕ) → List ℕ → Next
 columns_following flags b =
@@ -95,7 +98,7 @@ rows_width (rows.ItemCount t) = 2
 rows_width rows.RowCount = 4
 
 abbrev pub rows_following : RowsField → List ℕ → Next
-rows_following rows.Flags b = at (due.Rows (rows.ColumnCount (int b)))
+rows_following rows.Flags b = says (fact.HasMorePages (has_more_pages (int b))) (due.Rows (rows.ColumnCount (int b)))
 rows_following (rows.ColumnCount flags) b = columns_following flags b
 rows_following (rows.PagingState flags columns) b = past_bytes (int b) (columns_due flags columns)
 rows_following (rows.Name more t) b = past (short b) (names_due more t)

@@ -52,7 +52,7 @@ impl QueryField {
     {
         match *self {
             QueryField::Consistency => consistency_following(bytes),
-            QueryField::Flags => Next::at(flags_following(byte(bytes).into())),
+            QueryField::Flags => query_flags_following(bytes),
             QueryField::ValueCount(form) => Next::at(values_due(short(bytes), form)),
             QueryField::ValueName { more, form } => Next::past(
                 short(bytes).into(),
@@ -76,6 +76,19 @@ pub(crate) fn consistency_following(bytes: &[u8]) -> Next
     )
 }
 
+/// What follows the flags, of which 08 says that there is a paging state.
+#[inline(always)]
+pub(crate) fn query_flags_following(bytes: &[u8]) -> Next
+    requires { 1 ≤ length bytes.now }
+    ensures { result ≡ query_following QueryField.Flags bytes.now }
+{
+    let flags = byte(bytes).into();
+    Next::says(
+        Fact::HasPagingState(has(flags, 0x08)),
+        flags_following(flags),
+    )
+}
+
 /// What follows the page size.
 #[inline(always)]
 pub(crate) fn page_size_following(bytes: &[u8]) -> Next
@@ -95,7 +108,7 @@ pub(crate) fn consistency_due() -> Due
 
 /// What follows the flags: 01 says that there are values, 04 a page size, and 40 that values have names.
 #[inline(always)]
-pub(crate) fn flags_following(flags: u32) -> Due
+fn flags_following(flags: u32) -> Due
     ensures { result ≡ flags_following flags }
 {
     let paged = has(flags, 0x04);

@@ -11,8 +11,8 @@ use crate::facts::Facts;
 use crate::field_front::FieldFront;
 use crate::numbers::{byte, int, short};
 use crate::query::{
-    QueryField, ValueForm, consistency_due, consistency_following, flags_following,
-    page_size_following, past_value, values_due,
+    QueryField, ValueForm, consistency_due, consistency_following, page_size_following, past_value,
+    query_flags_following, values_due,
 };
 use crate::rows::{RowsField, columns_following, page_flags_following, row_count};
 use cqlp_note::{Header, Opcode};
@@ -243,9 +243,7 @@ impl FactsReader {
         match self.due {
             Due::StatementId => self.go_to(Next::past(short(bytes).into(), consistency_due())),
             Due::Query(QueryField::Consistency) => self.go_to(consistency_following(bytes)),
-            Due::Query(QueryField::Flags) => self.go_to(Next::at(flags_following(byte(
-                bytes,
-            ).into()))),
+            Due::Query(QueryField::Flags) => self.go_to(query_flags_following(bytes)),
             Due::Query(QueryField::ValueCount(ValueForm { named, paged })) => {
                 self.go_to(Next::at(values_due(short(bytes), ValueForm { named, paged })))
             }

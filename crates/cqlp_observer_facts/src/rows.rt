@@ -1,7 +1,7 @@
 //! A RESULT of kind Rows. Section 4.2.5.2 of `native_protocol_v4.spec`.
 
 ghost use Rattle.std.specs.Prelude.{◌≡◌, ◌≤◌, length};
-ghost use Rattle.cqlp_observer_facts.specs.Rows.{after_option, columns_due, columns_following, fields_due, is_plain, names_due};
+ghost use Rattle.cqlp_observer_facts.specs.Rows.{after_option, columns_due, columns_following, fields_due, has_more_pages, is_plain, names_due};
 ghost use Rattle.cqlp_observer_facts.specs.Rows.{paged_columns_due, row_count, rows_following, rows_width, types_due, udt_due};
 
 use crate::announced::past_bytes;
@@ -81,7 +81,11 @@ pub(crate) fn page_flags_following(bytes: &[u8]) -> Next
     requires { 4 ≤ length bytes.now }
     ensures { result ≡ rows_following RowsField.Flags bytes.now }
 {
-    Next::at(Due::Rows(RowsField::ColumnCount { flags: int(bytes) }))
+    let flags = int(bytes);
+    Next::says(
+        Fact::HasMorePages(has_more_pages(flags)),
+        Due::Rows(RowsField::ColumnCount { flags }),
+    )
 }
 
 /// What follows the number of columns.
@@ -101,12 +105,20 @@ pub(crate) fn columns_following(flags: u32, bytes: &[u8]) -> Next
     }
 }
 
-/// The paging state, if the flag 02 says that there is one, and the columns.
+/// Whether more pages follow: the flag 02 says that there is a paging state.
+#[inline(always)]
+fn has_more_pages(flags: u32) -> bool
+    ensures { result ≡ has_more_pages flags }
+{
+    has(flags, 0x02)
+}
+
+/// The paging state, if there is one, and the columns.
 #[inline(always)]
 fn paged_columns_due(flags: u32, columns: u32) -> Due
     ensures { result ≡ paged_columns_due flags columns }
 {
-    if has(flags, 0x02) {
+    if has_more_pages(flags) {
         Due::Rows(RowsField::PagingState { flags, columns })
     } else {
         columns_due(flags, columns)
