@@ -11,6 +11,7 @@ mod Merges
 mod Names
 mod Orders
 mod Ranks
+mod Sums
 mod Roomy
 pub mod Texts
 mod Reported

@@ -11,16 +11,16 @@ use Rattle.cqlp_capture_summary.proofs.Entries.{as_timed, counts_more, tallied_a
 
 -- sums that stay at the greatest number, once they are there, may be made in any order
 
-counted_apart : (n m k : ℕ) → counted n (counted m k) ≡ counted (counted n m) k
+pub counted_apart : (n m k : ℕ) → counted n (counted m k) ≡ counted (counted n m) k
 counted_apart n m k = omega arith
 
-counted_across : (n m k : ℕ) → counted (counted n k) m ≡ counted (counted n m) k
+pub counted_across : (n m k : ℕ) → counted (counted n k) m ≡ counted (counted n m) k
 counted_across n m k = omega arith
 
-max_apart : (n m k : ℕ) → max n (max m k) ≡ max (max n m) k
+pub max_apart : (n m k : ℕ) → max n (max m k) ≡ max (max n m) k
 max_apart n m k = omega arith
 
-max_across : (n m k : ℕ) → max (max n k) m ≡ max (max n m) k
+pub max_across : (n m k : ℕ) → max (max n k) m ≡ max (max n m) k
 max_across n m k = omega arith
 
 -- ---- one more in a bucket, of what is added or of what it is added to
@@ -41,13 +41,13 @@ more_across (suc b) (m ∷ ms) (n ∷ ns) long = ap (λ l. counted n m ∷ l) (m
 
 -- ---- one entry more, in what is added or in what it is added to
 
-earlier_apart : (a b c : Option ℕ) → earlier a (earlier b c) ≡ earlier (earlier a b) c
+pub earlier_apart : (a b c : Option ℕ) → earlier a (earlier b c) ≡ earlier (earlier a b) c
 earlier_apart None b c = refl
 earlier_apart (Some a) None c = refl
 earlier_apart (Some a) (Some b) None = refl
 earlier_apart (Some a) (Some b) (Some c) = ap (λ n. Some n) (omega arith)
 
-earlier_across : (a b c : Option ℕ) → earlier (earlier a c) b ≡ earlier (earlier a b) c
+pub earlier_across : (a b c : Option ℕ) → earlier (earlier a c) b ≡ earlier (earlier a b) c
 earlier_across None None None = refl
 earlier_across None None (Some c) = refl
 earlier_across None (Some b) None = refl
@@ -57,13 +57,13 @@ earlier_across (Some a) None (Some c) = refl
 earlier_across (Some a) (Some b) None = refl
 earlier_across (Some a) (Some b) (Some c) = ap (λ n. Some n) (omega arith)
 
-later_apart : (a b c : Option ℕ) → later a (later b c) ≡ later (later a b) c
+pub later_apart : (a b c : Option ℕ) → later a (later b c) ≡ later (later a b) c
 later_apart None b c = refl
 later_apart (Some a) None c = refl
 later_apart (Some a) (Some b) None = refl
 later_apart (Some a) (Some b) (Some c) = ap (λ n. Some n) (omega arith)
 
-later_across : (a b c : Option ℕ) → later (later a c) b ≡ later (later a b) c
+pub later_across : (a b c : Option ℕ) → later (later a c) b ≡ later (later a b) c
 later_across None None None = refl
 later_across None None (Some c) = refl
 later_across None (Some b) None = refl
@@ -73,7 +73,7 @@ later_across (Some a) None (Some c) = refl
 later_across (Some a) (Some b) None = refl
 later_across (Some a) (Some b) (Some c) = ap (λ n. Some n) (omega arith)
 
-same_tally : (t u : Tally) → t.count ≡ u.count → t.errors ≡ u.errors → t.unanswered ≡ u.unanswered → t.rows ≡ u.rows → t.bytes ≡ u.bytes → t.first ≡ u.first → t.last ≡ u.last → t.timed ≡ u.timed → t.time ≡ u.time → t.greatest ≡ u.greatest → t.buckets ≡ u.buckets → t ≡ u
+pub same_tally : (t u : Tally) → t.count ≡ u.count → t.errors ≡ u.errors → t.unanswered ≡ u.unanswered → t.rows ≡ u.rows → t.bytes ≡ u.bytes → t.first ≡ u.first → t.last ≡ u.last → t.timed ≡ u.timed → t.time ≡ u.time → t.greatest ≡ u.greatest → t.buckets ≡ u.buckets → t ≡ u
 same_tally t u a b c d e f g h i j k = λ x. record {
   count = a x;
   errors = b x;
@@ -175,7 +175,7 @@ no_buckets : (n : ℕ) → added (replicate n 0) (replicate n 0) ≡ replicate n
 no_buckets zero = refl
 no_buckets (suc n) = ap (λ l. 0 ∷ l) (no_buckets n)
 
-none_merged : merged none_counted none_counted ≡ none_counted
+pub none_merged : merged none_counted none_counted ≡ none_counted
 none_merged = ap (tally 0 0 0 0 0 None None 0 0 0) (no_buckets 1920)
 
 pub merge_counts_both : MergeCountsBoth

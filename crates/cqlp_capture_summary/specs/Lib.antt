@@ -1,8 +1,10 @@
+pub mod Adding
 pub mod Buckets
 pub mod Columns
 pub mod Counts
 pub mod Fingerprints
 pub mod Heaviest
+pub mod Histograms
 pub mod Intervals
 pub mod Laws
 pub mod Lines
@@ -13,4 +15,5 @@ pub mod Order
 pub mod Rows
 pub mod Shown
 pub mod Summaries
+pub mod Sums
 pub mod Tallies

@@ -1,6 +1,6 @@
 //! Times in buckets.
 
-ghost use Rattle.std.specs.Prelude.{◌≡◌, ◌<◌};
+ghost use Rattle.std.specs.Prelude.{◌≡◌, ◌<◌, IfSome};
 ghost use Rattle.cqlp_capture_summary.specs.Buckets.{bucket_of, greatest_in};
 
 /// How many buckets there are.
@@ -23,4 +23,17 @@ pub fn greatest_in(bucket: usize) -> u64
     let digits = (bucket / 32).saturating_sub(1);
     let width = 1u64 << digits;
     (bucket - 32 * digits) as u64 * width + (width - 1)
+}
+
+/// The bucket of which this is the greatest time, in nanoseconds, if there is one.
+pub(crate) fn bucket_up_to(time: u64) -> Option<usize>
+    ensures bucket { IfSome result (λ bucket. greatest_in bucket ≡ time) }
+    ensures within { IfSome result (λ bucket. bucket < 1920) }
+{
+    let bucket = bucket_of(time);
+    if greatest_in(bucket) == time {
+        Some(bucket)
+    } else {
+        None
+    }
 }

@@ -3,6 +3,7 @@
 ghost use Rattle.cqlp_capture_summary.specs.Heaviest.{CountsAllWhereThereIsRoom, KeepsEachOnce, KeepsTheHeaviest, ShowsExactlySince};
 ghost use Rattle.cqlp_capture_summary.specs.Laws.{CountsEachInOneInterval, DearerComesFirst, EachHasItsRank, FirstComesFirst, IntervalsRise};
 ghost use Rattle.cqlp_capture_summary.specs.Laws.{LiesInItsBucket, MergeCountsBoth, OneAnswerOfNew, OneAnswerOfNote, ReportsTimeAtRank, TextsAreAlike};
+ghost use Rattle.cqlp_capture_summary.specs.Sums.{SumsAreExact};
 
 /// Where memory is granted `Summary::new` has one answer, and so has `note`.
 pub fn one_answer()
@@ -45,6 +46,11 @@ pub fn counts_all_where_there_is_room()
 /// What is counted of two captures together, from what is counted of each, is what is counted of the one behind the other.
 pub fn merge_counts_both()
     ensures { MergeCountsBoth }
+{}
+
+/// What a table of any size counts of all names together, among them the others, is the sum of all that was added: each count, each sum and each bucket.
+pub fn sums_are_exact()
+    ensures { SumsAreExact }
 {}
 
 /// Each request is counted in one interval: what is counted of all of them together is what is counted of all requests. Whatever the order of the times is,

@@ -7,6 +7,7 @@ ghost use Rattle.cqlp_capture_summary.specs.Lines.{summary_text};
 ghost use Rattle.cqlp_capture_summary.specs.Names.{is_same};
 ghost use Rattle.cqlp_capture_summary.specs.Tallies.{figures_of, none_counted};
 
+use crate::histogram::put_histogram;
 use crate::intervals::{add_in_interval, is_over, put_interval};
 use crate::lines::put_summary;
 use crate::name::Name;
@@ -14,7 +15,7 @@ use crate::occurrence::Occurrence;
 use crate::recent::{Recent, fingerprint_in};
 use crate::row::Row;
 use crate::tally::{Figures, Tally, time_of};
-use crate::weights::{add_weight_at, lightest};
+use crate::weights::{add_weight_at, lightest, raise_weight_at};
 use cqlp_grammar::SinkFault;
 use cqlp_text::{Pen, TextWriter};
 use std::alloc::{AllocError, Allocator, Global};
@@ -64,9 +65,12 @@ impl<A: Allocator> Model for Summary<A> {
 }
 
 impl<A: Allocator> Summary<A> {
+    ghost use Rattle.cqlp_capture_summary.specs.Adding.{given_up, with_counts, with_counts_at, with_others, with_row, with_weight};
     ghost use Rattle.cqlp_capture_summary.specs.Counts.{entry_of, request_of};
+    ghost use Rattle.cqlp_capture_summary.specs.Histograms.{histogram_text};
     ghost use Rattle.cqlp_capture_summary.specs.Intervals.{interval_text, is_over, noted_in_interval};
     ghost use Rattle.cqlp_capture_summary.specs.Named.{noted_by_fingerprint};
+    ghost use Rattle.cqlp_capture_summary.specs.Names.{name_of};
     ghost use Rattle.cqlp_capture_summary.specs.Rows.{IsRowAt};
     ghost use Rattle.cqlp_capture_summary.specs.Summaries.{new_place, new_summary, noted, noted_request, place_of, taken_in};
     ghost use Rattle.cqlp_capture_summary.specs.Summaries.{with_in_place_of, with_name, with_new, with_request, with_request_at};
@@ -213,6 +217,76 @@ impl<A: Allocator> Summary<A> {
         self.names[at] = name;
     }
 
+    /// Counts what was counted of a name elsewhere: at its place, at a free one, or at that of the lightest, whose counts go to the others. There it took at
+    /// most so many nanoseconds, and before at most `before` where it has no place yet. Answers its place.
+    pub fn add(
+        &mut self,
+        name: &[u8],
+        is_whole: bool,
+        counts: &Tally,
+        most: u64,
+        before: u64,
+    ) -> Option<usize>
+        ensures added { self.new ≡ with_row (name_of name.now is_whole) counts.now most before self.old }
+        ensures place { result ≡ place_of (name_of name.now is_whole) self.old }
+        ensures within { IfSome result (λ at. at < self.old.statements) }
+    {
+        let name = Name::new(name, is_whole);
+        let before = if self.find(&name).is_some() {
+            0
+        } else {
+            before
+        };
+        let place = self.place_for(name);
+        self.add_counts(place, counts, most, before);
+        place
+    }
+
+    fn add_counts(&mut self, place: Option<usize>, counts: &Tally, most: u64, before: u64)
+        requires { IfSome place (λ at. at < self.old.statements) }
+        ensures { self.new ≡ with_counts place counts.now most before self.old }
+    {
+        match place {
+            Some(place) => self.add_counts_at(place, counts, most, before),
+            None => self.add_others(counts),
+        }
+    }
+
+    fn add_counts_at(&mut self, place: usize, counts: &Tally, most: u64, before: u64)
+        requires { place < self.old.statements }
+        ensures { self.new ≡ with_counts_at place counts.now most before self.old }
+    {
+        raise_weight_at(&mut self.weights, place, before, most);
+        self.tallies[place].merge(counts);
+    }
+
+    /// Counts what was counted elsewhere of all other names.
+    pub fn add_others(&mut self, counts: &Tally)
+        ensures { self.new ≡ with_others counts.now self.old }
+    {
+        self.others[0].merge(counts);
+    }
+
+    /// The most nanoseconds that a statement may have taken that gave up its place; 0 where there are free ones.
+    pub fn given_up(&self) -> u64
+        ensures { result ≡ given_up self.now }
+    {
+        if self.names.len() < self.statements {
+            return 0;
+        }
+        match lightest(&self.weights) {
+            Some(at) => self.weights[at],
+            None => 0,
+        }
+    }
+
+    /// The statement at a place may have taken so many nanoseconds more.
+    pub fn add_weight(&mut self, place: usize, more: u64)
+        ensures { self.new ≡ with_weight place more self.old }
+    {
+        add_weight_at(&mut self.weights, place, more);
+    }
+
     /// Whether the interval of so many seconds in which the others are counted is over, before a request that was over at this time. Where nothing is counted
     /// it is.
     pub fn is_over(&self, seconds: u32, at: Option<u64>) -> bool
@@ -243,6 +317,13 @@ impl<A: Allocator> Summary<A> {
         ensures { Writes writer.old (interval_text seconds self.now.others) result writer.new }
     {
         put_interval(writer, seconds, &self.others[0])
+    }
+
+    /// Writes how many of the others took how long, in ranges of time that double.
+    pub fn put_histogram<P: Pen>(&self, writer: &mut TextWriter<P>) -> Result<(), SinkFault>
+        ensures { Writes writer.old (histogram_text self.now.others) result writer.new }
+    {
+        put_histogram(writer, &self.others[0])
     }
 
     /// How many statements are in the table.

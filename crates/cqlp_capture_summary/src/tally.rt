@@ -1,16 +1,16 @@
 //! What is counted of a statement.
 
-ghost use Rattle.std.specs.Prelude.{◌≡◌, ◌≤◌, length, option_map, replicate};
-ghost use Rattle.cqlp_capture_summary.specs.Merging.{IsNoneBut, added};
+ghost use Rattle.std.specs.Prelude.{◌≡◌, ◌≤◌, ◌<◌, length, option_map, replicate};
+ghost use Rattle.cqlp_capture_summary.specs.Merging.{IsNoneBut, added, greatest_of};
 ghost use Rattle.cqlp_capture_summary.specs.Tallies.{bucket_at, earlier, error_count, later, time_of};
 
-use crate::buckets::{BUCKETS, bucket_of, greatest_in};
+use crate::buckets::{BUCKETS, bucket_of, bucket_up_to, greatest_in};
 use crate::occurrence::Occurrence;
 use std::marker::Model;
 
 /// What is counted of a statement. A number stays at 2^64 - 1 once it is there.
 #[derive(Drop)]
-pub(crate) struct Tally {
+pub struct Tally {
     count: u64,
     errors: u64,
     unanswered: u64,
@@ -77,12 +77,14 @@ pub struct Times {
 
 impl Tally {
     ghost use Rattle.cqlp_capture_summary.specs.Counts.{entry_of, request_of};
-    ghost use Rattle.cqlp_capture_summary.specs.Merging.{merged};
+    ghost use Rattle.std.specs.Prelude.{IfSome, MatchOption, None, Some};
+    ghost use Rattle.cqlp_capture_summary.specs.Buckets.{greatest_in};
+    ghost use Rattle.cqlp_capture_summary.specs.Merging.{merged, with_figures, with_times};
     ghost use Rattle.cqlp_capture_summary.specs.Tallies.{figures_of, none_counted, tallied, tallied_request, time_at, times_of};
     ghost use Rattle.cqlp_capture_summary.specs.Tallies.{with_answer, with_seen_if, with_time};
 
     /// Nothing is counted.
-    pub(crate) fn new() -> Self
+    pub fn new() -> Self
         ensures { result ≡ none_counted }
     {
         Tally {
@@ -103,7 +105,7 @@ impl Tally {
     }
 
     /// Nanoseconds in sum.
-    pub(crate) fn time(&self) -> u64
+    pub fn time(&self) -> u64
         ensures { result ≡ self.now.time }
     {
         self.time
@@ -116,7 +118,28 @@ impl Tally {
         &self.buckets
     }
 
-    pub(crate) fn count(&self) -> u64
+    pub(crate) fn unanswered(&self) -> u64
+        ensures { result ≡ self.now.unanswered }
+    {
+        self.unanswered
+    }
+
+    /// Of how many it is known how long they took.
+    pub(crate) fn timed(&self) -> u64
+        ensures { result ≡ self.now.timed }
+    {
+        self.timed
+    }
+
+    /// Nanoseconds that the longest of them took.
+    pub(crate) fn greatest(&self) -> u64
+        ensures { result ≡ self.now.greatest }
+    {
+        self.greatest
+    }
+
+    /// How often it was asked for.
+    pub fn count(&self) -> u64
         ensures { result ≡ self.now.count }
     {
         self.count
@@ -185,6 +208,41 @@ impl Tally {
         self.end = self.end.max(bucket + 1);
     }
 
+    /// Has what is counted elsewhere, but for the times, whose greatest alone it takes.
+    pub fn set_figures(&mut self, figures: &Figures)
+        ensures { self.new ≡ with_figures figures.now self.old }
+    {
+        self.count = figures.count;
+        self.errors = figures.errors;
+        self.unanswered = figures.unanswered;
+        self.rows = figures.rows;
+        self.bytes = figures.bytes;
+        self.first = figures.first;
+        self.last = figures.last;
+        self.time = figures.time;
+        self.greatest = greatest_of(figures.times);
+    }
+
+    /// Counts so many times of the bucket of which this is the greatest one, if there is such a bucket, which it answers.
+    pub fn add_times(&mut self, greatest: u64, count: u64) -> Option<usize>
+        ensures counted { MatchOption result (self.new ≡ self.old) (λ bucket. self.new ≡ with_times bucket count self.old) }
+        ensures bucket { IfSome result (λ bucket. greatest_in bucket ≡ greatest) }
+    {
+        let bucket = bucket_up_to(greatest)?;
+        self.add_in(bucket, count);
+        Some(bucket)
+    }
+
+    fn add_in(&mut self, bucket: usize, count: u64)
+        requires { bucket < 1920 }
+        ensures { self.new ≡ with_times bucket count self.old }
+    {
+        self.timed = self.timed.saturating_add(count);
+        self.buckets[bucket] = self.buckets[bucket].saturating_add(count);
+        self.from = self.from.min(bucket);
+        self.end = self.end.max(bucket + 1);
+    }
+
     /// Counts what another one counted.
     pub(crate) fn merge(&mut self, more: &Tally)
         ensures { self.new ≡ merged more.now self.old }
@@ -205,7 +263,7 @@ impl Tally {
     }
 
     /// Counts nothing any more.
-    pub(crate) fn clear(&mut self)
+    pub fn clear(&mut self)
         ensures { self.new ≡ none_counted }
     {
         self.count = 0;
@@ -315,16 +373,26 @@ pub(crate) fn time_of(took: Option<u64>) -> u64
     took.unwrap_or(0)
 }
 
+/// The greatest of some times, where one is known.
+fn greatest_of(times: Option<Times>) -> u64
+    ensures { result ≡ greatest_of times }
+{
+    match times {
+        Some(times) => times.greatest,
+        None => 0,
+    }
+}
+
 fn error_count(is_error: bool) -> u64
     ensures { result ≡ error_count is_error }
 {
     if is_error { 1 } else { 0 }
 }
 
-ghost use Rattle.std.specs.Prelude.{IfSome, ◌<◌};
+ghost use Rattle.std.specs.Prelude.{IfSome};
 
 /// The bucket of the time at a rank, counted from 1.
-fn bucket_at(buckets: &[u64], rank: u64) -> Option<usize>
+pub(crate) fn bucket_at(buckets: &[u64], rank: u64) -> Option<usize>
     ensures bucket { result ≡ bucket_at rank 0 buckets.now }
     ensures within { IfSome result (λ bucket. bucket < length buckets.now) }
 {
