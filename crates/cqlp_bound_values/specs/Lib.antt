@@ -1,0 +1,4 @@
+pub mod Fields
+pub mod Columns
+pub mod Bindings
+pub mod Texts

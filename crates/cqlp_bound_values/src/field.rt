@@ -1,0 +1,73 @@
+//! Fields at the front of bytes, and what comes behind them, which is nothing where a field is not there whole.
+
+ghost use Rattle.std.specs.Prelude.{◌≡◌, drop, take};
+ghost use Rattle.std.specs.Str.Lossy.{utf8_valid_len};
+ghost use Rattle.cqlp_note.specs.Heading.{has as has_bit};
+ghost use Rattle.cqlp_bound_values.specs.Fields.{behind_long_string, behind_string, int_at, short_at, string_at, text_front};
+
+/// What comes behind so many bytes.
+pub(crate) fn behind(count: usize, bytes: &[u8]) -> &[u8]
+    ensures { result.now ≡ drop count bytes.now }
+{
+    &bytes[bytes.len().min(count)..]
+}
+
+/// A \[short\], or 0 where it is not there.
+pub(crate) fn short_at(bytes: &[u8]) -> u16
+    ensures { result ≡ short_at bytes.now }
+{
+    match bytes.first_chunk::<2>() {
+        Some(number) => u16::from_be_bytes(*number),
+        None => 0,
+    }
+}
+
+/// An \[int\] without a sign, or 0 where it is not there.
+pub(crate) fn int_at(bytes: &[u8]) -> u32
+    ensures { result ≡ int_at bytes.now }
+{
+    match bytes.first_chunk::<4>() {
+        Some(number) => u32::from_be_bytes(*number),
+        None => 0,
+    }
+}
+
+/// What is there of a \[string\].
+pub(crate) fn string_at(bytes: &[u8]) -> &[u8]
+    ensures { result.now ≡ string_at bytes.now }
+{
+    let content = behind(2, bytes);
+    &content[..content.len().min(short_at(bytes) as usize)]
+}
+
+/// What comes behind a \[string\], or \[short bytes\].
+pub(crate) fn behind_string(bytes: &[u8]) -> &[u8]
+    ensures { result.now ≡ behind_string bytes.now }
+{
+    behind(short_at(bytes) as usize, behind(2, bytes))
+}
+
+/// What comes behind a \[long string\].
+pub(crate) fn behind_long_string(bytes: &[u8]) -> &[u8]
+    ensures { result.now ≡ behind_long_string bytes.now }
+{
+    behind(int_at(bytes) as usize, behind(4, bytes))
+}
+
+/// The longest front of bytes that is UTF-8.
+pub(crate) fn text_front(bytes: &[u8]) -> &str
+    ensures { result.now ≡ text_front bytes.now }
+{
+    match str::from_utf8(bytes) {
+        Ok(text) => text,
+        // SAFETY: the bytes up to there are UTF-8.
+        Err(error) => unsafe { str::from_utf8_unchecked(&bytes[..error.valid_up_to()]) },
+    }
+}
+
+/// Whether some bit of these is set.
+pub(crate) fn has(flags: u8, bits: u8) -> bool
+    ensures { result ≡ has_bit flags bits }
+{
+    flags & bits > 0
+}

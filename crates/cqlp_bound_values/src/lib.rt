@@ -1,0 +1,13 @@
+//! The values that a request binds to its statement, as far as the first bytes of its message hold them, with the types that a PREPARED response gives them.
+#![tactic(auto)]
+
+mod binding;
+mod column_types;
+mod field;
+mod item;
+mod scalars;
+mod text;
+
+pub use binding::{Binding, BoundValues, values_bound_by};
+pub use column_types::ColumnTypes;
+pub use text::{put_values, put_values_members};
