@@ -1,8 +1,9 @@
--- The files of a capture that a command line names.
-use Rattle.std.specs.Prelude.{◌≡◌, ◌≢◌, ℕ, List, [], ◌∷◌, codes, map}
+-- The files of a capture, or of summaries, that a command line names.
+use Rattle.std.specs.Prelude.{◌≡◌, ◌≢◌, ℕ, true, List, [], ◌∷◌, codes, map}
 use Rattle.std.specs.Borrow.{Bor}
 use Rattle.std.specs.List.{All}
 use Rattle.cqlp_options.specs.declared.capture.CaptureOptions.{CaptureOptions}
+use Rattle.cqlp_options.specs.declared.merge.MergeOptions.{MergeOptions}
 
 abbrev pub texts_of : List (Bor (List ℕ)) → List (List ℕ)
 texts_of = map (λ text. text.now)
@@ -20,5 +21,17 @@ pub record GoesAlone (first : List ℕ) (others : List (List ℕ)) : Type 0 wher
   pub first_alone : first ≡ codes "-" → others ≡ []
   pub no_other : All (λ file. file ≢ codes "-") others
 
+-- The paths of captures come from standard input alone.
+abbrev pub FollowsInput : CaptureOptions → Type 0
+FollowsInput options = options.follow ≡ true → options.file.now ≡ codes "-"
+
 abbrev pub IsInputAlone : CaptureOptions → Type 0
 IsInputAlone options = GoesAlone options.file.now (more_files options)
+
+-- ---- of summaries
+
+abbrev pub summary_files : MergeOptions → List (List ℕ)
+summary_files options = options.file.now ∷ texts_of options.more.items
+
+abbrev pub IsMergeInputAlone : MergeOptions → Type 0
+IsMergeInputAlone options = GoesAlone options.file.now (texts_of options.more.items)

@@ -3,6 +3,7 @@ pub mod CaptureFiles
 pub mod CaptureLimits
 pub mod CommandLines
 pub mod Ends
+pub mod Kinds
 pub mod Matched
 pub mod NoTasks
 pub mod Ports

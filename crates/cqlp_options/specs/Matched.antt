@@ -5,10 +5,12 @@ use Rattle.std.specs.Str.Parse.{IsNumeral, digits_value, without_leading_plus}
 use Rattle.clap.specs.Words.{Row, Text, all_of, first_of, one_of, subcommand_of}
 use Rattle.cqlp_note.specs.declared.opcode.Opcode.{Opcode}
 use Rattle.cqlp_text.specs.Names.{opcode_name}
-use Rattle.cqlp_options.specs.CaptureFiles.{all_files}
+use Rattle.cqlp_options.specs.CaptureFiles.{all_files, summary_files}
 use Rattle.cqlp_options.specs.Ends.{NamesEnd}
+use Rattle.cqlp_options.specs.Kinds.{kind_name}
 use Rattle.cqlp_options.specs.Program.{program}
 use Rattle.cqlp_options.specs.Seconds.{nanoseconds_of}
+use Rattle.cqlp_options.specs.declared.capture.AskedLines.{AskedLines}
 use Rattle.cqlp_options.specs.declared.capture.CaptureOptions.{CaptureOptions}
 use Rattle.cqlp_options.specs.declared.capture.CaptureTask.{CaptureTask}
 use Rattle.cqlp_options.specs.declared.capture.CaptureTask.TheVariants as capture
@@ -20,10 +22,14 @@ use Rattle.cqlp_options.specs.declared.capture.SummaryBy.TheVariants as by
 use Rattle.cqlp_options.specs.declared.command_line.CommandLine.{CommandLine}
 use Rattle.cqlp_options.specs.declared.command_line.CommandLine.TheVariants as line
 use Rattle.cqlp_options.specs.declared.end.AskedEnd.{AskedEnd}
+use Rattle.cqlp_options.specs.declared.kind.AskedKind.{AskedKind}
 use Rattle.cqlp_options.specs.declared.time.AskedTime.{AskedTime}
 use Rattle.cqlp_options.specs.declared.time.AskedTime.TheVariants as asked_time
 use Rattle.cqlp_options.specs.Calendar.{IsTimeAt}
 use Rattle.cqlp_options.specs.declared.limits.CaptureLimits.{CaptureLimits}
+use Rattle.cqlp_options.specs.declared.merge.MergeOptions.{MergeOptions}
+use Rattle.cqlp_options.specs.declared.merge.SumAs.{SumAs}
+use Rattle.cqlp_options.specs.declared.merge.SumAs.TheVariants as sum_as
 use Rattle.cqlp_options.specs.declared.options.AtRefusal.{AtRefusal}
 use Rattle.cqlp_options.specs.declared.options.AtRefusal.TheVariants as at
 use Rattle.cqlp_options.specs.declared.options.EventsAs.{EventsAs}
@@ -63,6 +69,11 @@ IsLimit option default rows n = (given : Option ℕ) × IsNumber 32 option rows 
 -- the opcode that has the name that is given
 abbrev pub IsOpcode : (option : Text) → List Row → Option Opcode → Type 0
 IsOpcode option rows opcode = option_map opcode_name opcode ≡ first_of option rows
+
+-- the kind of reply that is named, if one is
+abbrev pub IsKind : (option : Text) → List Row → Option AskedKind → Type 0
+IsKind option rows None = first_of option rows ≡ None
+IsKind option rows (Some k) = IsSomeAnd (first_of option rows) (λ text. kind_name k ≡ Some text)
 
 -- the end that is named, if one is
 abbrev pub IsEnd : (option : Text) → List Row → Option AskedEnd → Type 0
@@ -148,28 +159,52 @@ is_literal b = false
 abbrev pub IsSummaryBy : List Row → SummaryBy → Type 0
 IsSummaryBy rows b = (by_word rows ≡ by_name b) × IsFlag (codes "literal") rows (is_literal b)
 
--- a summary by a word, and not by intervals
+-- a summary by a word, and not by intervals or ranges of time
 abbrev pub IsSummary : (is_json : Bool) → List Row → SummaryBy → Type 0
 IsSummary is_json rows b =
-    IsFlag (codes "summary") rows true × IsNumber 32 (codes "every") rows None × IsFlag (codes "json") rows is_json × IsSummaryBy rows b
+    IsFlag (codes "summary") rows true × IsFlag (codes "histogram") rows false × IsNumber 32 (codes "every") rows None
+    × IsFlag (codes "json") rows is_json × IsSummaryBy rows b
 
--- each request, or a summary of them, as lines or as JSON
+-- what lines are to have
+pub record AreLines (rows : List Row) (lines : AskedLines) : Type 0 where
+  pub utc : IsFlag (codes "utc") rows lines.utc
+  pub ends : IsFlag (codes "ends") rows lines.ends
+
+abbrev pub plain : AskedLines
+plain = record { utc = false; ends = false }
+
+-- a histogram of all requests, beside nothing that counts otherwise
+pub record IsHistogramAlone (is_json : Bool) (rows : List Row) : Type 0 where
+  pub no_json : is_json ≡ false
+  pub no_word : first_of (codes "by") rows ≡ None
+  pub no_interval : IsNumber 32 (codes "every") rows None
+  pub no_literals : IsFlag (codes "literal") rows false
+
+-- each request, or a summary of them, as lines or as JSON; what lines are to have is asked of them alone
 abbrev pub IsExchangesForm : List Row → ExchangesAs → Type 0
-IsExchangesForm rows (exchanges_as.Summary b) = IsSummary false rows b
-IsExchangesForm rows (exchanges_as.SummaryJson b) = IsSummary true rows b
-IsExchangesForm rows (exchanges_as.Intervals n) = IsFlag (codes "summary") rows true × IsNumber 32 (codes "every") rows (Some n)
-IsExchangesForm rows exchanges_as.Json = IsFlag (codes "summary") rows false × IsFlag (codes "json") rows true
-IsExchangesForm rows exchanges_as.Lines = IsFlag (codes "summary") rows false × IsFlag (codes "json") rows false
+IsExchangesForm rows (exchanges_as.Lines lines values) =
+    IsFlag (codes "summary") rows false × IsFlag (codes "json") rows false × AreLines rows lines × IsFlag (codes "values") rows values
+IsExchangesForm rows (exchanges_as.Json values) =
+    IsFlag (codes "summary") rows false × IsFlag (codes "json") rows true × AreLines rows plain × IsFlag (codes "values") rows values
+IsExchangesForm rows (exchanges_as.Summary b) = IsSummary false rows b × AreLines rows plain
+IsExchangesForm rows (exchanges_as.SummaryJson b) = IsSummary true rows b × AreLines rows plain
+IsExchangesForm rows (exchanges_as.Intervals n) =
+    IsFlag (codes "summary") rows true × IsFlag (codes "histogram") rows false × IsNumber 32 (codes "every") rows (Some n)
+    × AreLines rows plain
+IsExchangesForm rows exchanges_as.Histogram =
+    IsFlag (codes "summary") rows true × IsFlag (codes "histogram") rows true × IsHistogramAlone false rows × AreLines rows plain
 
 pub record AreExchanges (rows : List Row) (asked : ExchangeOptions) : Type 0 where
   pub slow : IsNumber 32 (codes "slow") rows asked.slow
   pub errors : IsFlag (codes "errors") rows asked.errors
   pub opcode : IsOpcode (codes "opcode") rows asked.opcode
+  pub kind : IsKind (codes "kind") rows asked.kind
   pub client : IsEnd (codes "client") rows asked.client
   pub node : IsEnd (codes "node") rows asked.node
   pub since : IsTime (codes "from") rows asked.since
   pub until : IsTime (codes "to") rows asked.until
   pub statement : IsText (codes "statement") rows asked.statement
+  pub statements : IsText (codes "statements") rows asked.statements
   pub connection : IsNumber 64 (codes "connection") rows asked.connection
   pub form : IsExchangesForm rows asked.form
 
@@ -198,7 +233,18 @@ pub record AreCaptureLimits (rows : List Row) (limits : CaptureLimits) : Type 0 
 pub record AreCaptureOptions (rows : List Row) (options : CaptureOptions) : Type 0 where
   pub task : IsCaptureTask rows options.task
   pub limits : AreCaptureLimits rows options.limits
+  pub follow : IsFlag (codes "follow") rows options.follow
   pub files : AreTexts (codes "file") rows (all_files options)
+
+-- ---- summaries
+
+abbrev pub is_json_sum : SumAs → Bool
+is_json_sum sum_as.Table = false
+is_json_sum sum_as.Json = true
+
+pub record AreMergeOptions (rows : List Row) (options : MergeOptions) : Type 0 where
+  pub form : IsFlag (codes "json") rows (is_json_sum options.form)
+  pub files : AreTexts (codes "file") rows (summary_files options)
 
 -- ---- a command line
 
@@ -207,6 +253,7 @@ abbrev pub IsLine : (name : Text) → List Row → CommandLine → Type 0
 IsLine name rows (line.Stream options) = AreOptions name rows options
 IsLine name rows (line.Loop queries) = (name ≡ codes "loop") × IsNumber 16 (codes "queries") rows (Some queries)
 IsLine name rows (line.Capture options) = (name ≡ codes "capture") × AreCaptureOptions rows options
+IsLine name rows (line.Merge options) = (name ≡ codes "merge") × AreMergeOptions rows options
 
 abbrev pub IsLineOf : Option (Text × List Row) → CommandLine → Type 0
 IsLineOf found line = IsSomeAnd found (λ task. IsLine task.0 task.1 line)

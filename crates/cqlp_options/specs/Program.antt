@@ -57,22 +57,29 @@ reading =
 abbrev pub capture : List Rule
 capture =
     paths (codes "file")
+    ∷ flag (codes "follow")
     ∷ repeated (codes "9042") (in_range 1 65535 (named (codes "port")))
     ∷ in_range 0 4294967295 (named (codes "slow"))
     ∷ flag (codes "errors")
     ∷ named (codes "opcode")
+    ∷ named (codes "kind")
     ∷ named (codes "client")
     ∷ named (codes "node")
     ∷ named (codes "from")
     ∷ named (codes "to")
     ∷ named (codes "statement")
+    ∷ bound (named (codes "statements"))
     ∷ from_one (named (codes "connection"))
     ∷ bound (named (codes "streams"))
     ∷ bound (flag (codes "json"))
+    ∷ bound (flag (codes "values"))
+    ∷ bound (flag (codes "utc"))
+    ∷ bound (flag (codes "ends"))
     ∷ bound (flag (codes "summary"))
     ∷ bound (named (codes "by"))
     ∷ bound (flag (codes "literal"))
     ∷ bound (in_range 1 86400 (named (codes "every")))
+    ∷ bound (flag (codes "histogram"))
     ∷ bound (flag (codes "events"))
     ∷ bound (flag (codes "rows"))
     ∷ in_range 1 1048576 (named (codes "connections"))
@@ -81,6 +88,9 @@ capture =
     ∷ in_range 1 4096 (named (codes "text"))
     ∷ in_range 0 65536 (named (codes "order"))
     ∷ []
+
+abbrev pub merge : List Rule
+merge = paths (codes "file") ∷ flag (codes "json") ∷ []
 
 abbrev pub task : (name : Text) → List Rule → Shape
 task name words = record (new_shape name) { rules = words }
@@ -92,6 +102,7 @@ tasks =
     ∷ task (codes "check") reading
     ∷ task (codes "loop") (in_range 1 1000 (path (codes "queries")) ∷ [])
     ∷ task (codes "capture") capture
+    ∷ task (codes "merge") merge
     ∷ []
 
 -- the program itself, to which one of its tasks is given

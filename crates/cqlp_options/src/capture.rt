@@ -1,16 +1,17 @@
 //! What is asked for with a capture.
 
-ghost use Rattle.std.specs.Prelude.{◌≡◌, ◌≤◌, ◌↔◌, ◌∷◌, IfOk, IfSome, IsTrue, codes, false, length};
+ghost use Rattle.std.specs.Prelude.{◌≡◌, ◌≤◌, ◌↔◌, ◌∷◌, IfOk, IfSome, IsTrue, OnOk, codes, false, length};
 ghost use Rattle.clap.specs.Words.{found_of, rows_of};
 ghost use Rattle.cqlp_text.specs.Names.{opcode_name};
 ghost use Rattle.cqlp_options.specs.Matched.{AreCaptureOptions, AreExchanges, AreTexts, IsCaptureTask, IsExchangesForm, IsOpcode};
-ghost use Rattle.cqlp_options.specs.Matched.{IsSummaryBy, by_name, by_word, is_literal};
-ghost use Rattle.cqlp_options.specs.CaptureFiles.{GoesAlone, IsInputAlone, texts_of};
+ghost use Rattle.cqlp_options.specs.Matched.{AreLines, IsHistogramAlone, IsSummaryBy, by_name, by_word, is_literal, plain};
+ghost use Rattle.cqlp_options.specs.CaptureFiles.{FollowsInput, GoesAlone, IsInputAlone, texts_of};
 ghost use Rattle.cqlp_options.specs.CaptureLimits.{AreWithin as AreWithinRanges};
 ghost use Rattle.cqlp_options.specs.Ports.{AreWithin, named};
 
 use crate::bad_value::{BadValue, NoLine};
 use crate::end::{AskedEnd, NoEnd, end};
+use crate::kind::{AskedKind, kind};
 use crate::limits::CaptureLimits;
 use crate::matched::{flag, long_number, number, path};
 use crate::time::{AskedTime, time};
@@ -66,27 +67,73 @@ impl Ports {
     }
 }
 
+/// What lines of exchanges are to have.
+#[derive(Clone, Copy)]
+pub struct AskedLines {
+    /// Their times are dates and times of day of UTC.
+    pub utc: bool,
+    /// They name the client and the node.
+    pub ends: bool,
+}
+
+impl AskedLines {
+    fn matched(matches: &ArgMatches<'_>) -> AskedLines
+        ensures { AreLines (rows_of (found_of matches.now)) result }
+    {
+        AskedLines {
+            utc: flag(matches, "utc"),
+            ends: flag(matches, "ends"),
+        }
+    }
+
+    /// Refuses lines that are to have something.
+    fn check_plain(self) -> Result<(), BadValue>
+        ensures { OnOk result (self ≡ plain) }
+    {
+        if self.utc || self.ends {
+            return Err(BadValue::Lines);
+        }
+        Ok(())
+    }
+}
+
 /// How exchanges are written.
 #[derive(Clone, Copy)]
 pub enum ExchangesAs {
     /// A line for each.
-    Lines,
+    Lines {
+        lines: AskedLines,
+        /// Whether it has the values that the request binds.
+        values: bool,
+    },
     /// A JSON object in a line for each.
-    Json,
+    Json {
+        /// Likewise.
+        values: bool,
+    },
     /// A line at the end for each of what they are counted by.
     Summary(SummaryBy),
     /// Likewise a JSON object in a line.
     SummaryJson(SummaryBy),
     /// A line for each interval of so many seconds.
     Intervals(u32),
+    /// How many took how long, in ranges of time that double.
+    Histogram,
 }
 
 impl ExchangesAs {
+    /// What the words were matched to, if what lines are to have is asked of lines.
     fn matched(matches: &ArgMatches<'_>) -> Result<ExchangesAs, BadValue>
         ensures { IfOk result (IsExchangesForm (rows_of (found_of matches.now))) }
     {
+        let lines = AskedLines::matched(matches);
         let is_json = flag(matches, "json");
         if flag(matches, "summary") {
+            lines.check_plain()?;
+            if flag(matches, "histogram") {
+                check_alone(matches, is_json)?;
+                return Ok(ExchangesAs::Histogram);
+            }
             if let Some(seconds) = number(matches, "every") {
                 return Ok(ExchangesAs::Intervals(seconds));
             }
@@ -96,11 +143,26 @@ impl ExchangesAs {
             }
             return Ok(ExchangesAs::Summary(by));
         }
+        let values = flag(matches, "values");
         if is_json {
-            Ok(ExchangesAs::Json)
+            lines.check_plain()?;
+            Ok(ExchangesAs::Json { values })
         } else {
-            Ok(ExchangesAs::Lines)
+            Ok(ExchangesAs::Lines { lines, values })
         }
+    }
+}
+
+/// Refuses a histogram beside what counts otherwise.
+fn check_alone(matches: &ArgMatches<'_>, is_json: bool) -> Result<(), BadValue>
+    ensures { OnOk result (IsHistogramAlone is_json (rows_of (found_of matches.now))) }
+{
+    if is_json || flag(matches, "literal") {
+        return Err(BadValue::Histogram);
+    }
+    match (path(matches, "by"), number(matches, "every")) {
+        (None, None) => Ok(()),
+        (Some(_), _) | (None, Some(_)) => Err(BadValue::Histogram),
     }
 }
 
@@ -174,6 +236,8 @@ pub struct ExchangeOptions<'a> {
     pub errors: bool,
     /// Requests with this opcode alone.
     pub opcode: Option<Opcode>,
+    /// Those alone whose reply is of this kind, and such responses alone.
+    pub kind: Option<AskedKind>,
     /// Those of connections of this client alone.
     pub client: Option<AskedEnd>,
     /// Those of connections of this node alone.
@@ -184,6 +248,8 @@ pub struct ExchangeOptions<'a> {
     pub until: Option<AskedTime>,
     /// Requests alone whose statement has this text.
     pub statement: Option<&'a str>,
+    /// The path of a file with texts of statements that were prepared before.
+    pub statements: Option<&'a str>,
     /// Those of the connection with this number alone; the first has the number 1.
     pub connection: Option<u64>,
     pub form: ExchangesAs,
@@ -194,6 +260,7 @@ impl<'a> ExchangeOptions<'a> {
         ensures { IfOk result (AreExchanges (rows_of (found_of matches.now))) }
     {
         let opcode = opcode_of(matches)?;
+        let kind = kind(matches)?;
         let client = end(matches, "client").or(Err(BadValue::Client))?;
         let node = end(matches, "node").or(Err(BadValue::Node))?;
         let since = time(matches, "from").or(Err(BadValue::From))?;
@@ -203,11 +270,13 @@ impl<'a> ExchangeOptions<'a> {
             slow: number(matches, "slow"),
             errors: flag(matches, "errors"),
             opcode,
+            kind,
             client,
             node,
             since,
             until,
             statement: path(matches, "statement"),
+            statements: path(matches, "statements"),
             connection: long_number(matches, "connection"),
             form,
         })
@@ -255,6 +324,8 @@ pub struct CaptureOptions<'a> {
     pub task: CaptureTask<'a>,
     pub limits: CaptureLimits,
     pub ports: Ports,
+    /// Whether standard input has the paths of the capture's files, a line each, which are read as their lines come; `file` is `-` then.
+    pub follow: bool,
     /// The path of the capture's first file, or `-` for standard input, which goes alone.
     pub file: &'a str,
     /// The paths of further files, which were captured after it, in order.
@@ -270,9 +341,14 @@ impl<'a> CaptureOptions<'a> {
     ) -> Result<CaptureOptions<'a>, NoLine>
         ensures within { IfOk result (λ options. AreWithin options.ports × AreWithinRanges options.limits) }
         ensures alone { IfOk result IsInputAlone }
+        ensures follows { IfOk result FollowsInput }
         ensures words { IfOk result (AreCaptureOptions (rows_of (found_of matches.now))) }
     {
         let (file, others) = files_of(matches)?;
+        let follow = flag(matches, "follow");
+        if follow && file != "-" {
+            return Err(NoLine::BadValue(BadValue::Follow));
+        }
         let task = CaptureTask::matched(matches)?;
         let limits = CaptureLimits::matched(matches).ok_or(BadValue::Range)?;
         let ports = ports_of(matches).ok_or(BadValue::Range)?;
@@ -282,14 +358,17 @@ impl<'a> CaptureOptions<'a> {
             task,
             limits,
             ports,
+            follow,
             file,
             more,
         })
     }
 }
 
-/// The paths of a capture's files, the first and the others, if standard input goes alone.
-fn files_of<'m, 'a>(matches: &'m ArgMatches<'a>) -> Result<(&'a str, &'m [&'a str]), BadValue>
+/// The paths of files, the first and the others, if standard input goes alone.
+pub(crate) fn files_of<'m, 'a>(
+    matches: &'m ArgMatches<'a>,
+) -> Result<(&'a str, &'m [&'a str]), BadValue>
     ensures paths { IfOk result (λ files. AreTexts (codes "file") (rows_of (found_of matches.now)) (files.0.now ∷ texts_of files.1.now)) }
     ensures alone { IfOk result (λ files. GoesAlone files.0.now (texts_of files.1.now)) }
 {

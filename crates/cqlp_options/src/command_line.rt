@@ -10,6 +10,7 @@ ghost use Rattle.cqlp_options.specs.Matched.{AskFor, IsLineOf, IsNumber};
 use crate::bad_value::{BadValue, NoLine};
 use crate::capture::CaptureOptions;
 use crate::matched::short_number;
+use crate::merge::MergeOptions;
 use crate::no_task::{NoTask, no_task_of};
 use crate::options::Options;
 use crate::program::program;
@@ -35,6 +36,8 @@ pub enum CommandLine<'a> {
     Loop { queries: u16 },
     /// A task with a capture.
     Capture(CaptureOptions<'a>),
+    /// Summaries are added.
+    Merge(MergeOptions<'a>),
 }
 
 impl<'a> CommandLine<'a> {
@@ -59,6 +62,7 @@ impl<'a> CommandLine<'a> {
             CommandLine::Stream(options) => options.file == path,
             CommandLine::Loop { .. } => false,
             CommandLine::Capture(options) => options.file == path || options.more.contains(&path),
+            CommandLine::Merge(options) => options.file == path || options.more.contains(&path),
         }
     }
 
@@ -68,6 +72,7 @@ impl<'a> CommandLine<'a> {
     {
         match self {
             CommandLine::Capture(options) => !options.more.is_empty(),
+            CommandLine::Merge(options) => !options.more.is_empty(),
             CommandLine::Stream(_) | CommandLine::Loop { .. } => false,
         }
     }
@@ -120,6 +125,10 @@ fn line_of<'a>(alloc: Global, matches: &ArgMatches<'a>) -> Result<CommandLine<'a
         ("capture", matches) => {
             let options = CaptureOptions::matched(alloc, matches)?;
             Ok(CommandLine::Capture(options))
+        }
+        ("merge", matches) => {
+            let options = MergeOptions::matched(alloc, matches)?;
+            Ok(CommandLine::Merge(options))
         }
         (name, matches) => {
             let options = Options::matched(name, matches).ok_or(BadValue::Range)?;
