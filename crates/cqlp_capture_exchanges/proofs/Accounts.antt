@@ -11,7 +11,7 @@ use Rattle.cqlp_capture_streams.specs.declared.fault.StreamsFault.TheVariants as
 use Rattle.cqlp_capture_exchanges.specs.declared.connection.Connection.{Connection}
 use Rattle.cqlp_capture_exchanges.specs.declared.filter.ExchangeFilter.{ExchangeFilter}
 use Rattle.cqlp_capture_exchanges.specs.declared.form.ExchangeForm.{ExchangeForm}
-use Rattle.cqlp_capture_exchanges.specs.Prepared.{Preparation}
+use Rattle.cqlp_capture_exchanges.specs.Prepared.{Known}
 use Rattle.cqlp_capture_exchanges.specs.Reports.{Report}
 use Rattle.cqlp_capture_exchanges.specs.declared.sums.ExchangeSums.{ExchangeSums}
 use Rattle.cqlp_capture_exchanges.specs.Accounts.{Account, FailsAmong, Finishes, Stops, ReportsOne, ReportsAll, account, with_all, with_report, with_shown, with_reported}
@@ -113,7 +113,7 @@ hidden_is : {X : Type 0} (d : Bool) (x y : X) → d ≡ false → (if d then x e
 hidden_is true x y e = absurd cc
 hidden_is false x y e = refl
 
-reported_text : (f : ExchangeFilter) (form : ExchangeForm) (first : Option ℕ) (kn : List Preparation) (m : Summary) (s : ExchangeSums) (old new : Output) (n : Connection) (t : Report) (r : Result (Unit {0}) SinkFault) → shows f kn first n t ≡ true → WritesText old (text_of form kn first m n t) r new → ReportsOne n t (account f form first kn m s old) r (account f form first kn (noted_in form kn n t m) (with_report t s) new)
+reported_text : (f : ExchangeFilter) (form : ExchangeForm) (first : Option ℕ) (kn : Known) (m : Summary) (s : ExchangeSums) (old new : Output) (n : Connection) (t : Report) (r : Result (Unit {0}) SinkFault) → shows f kn first n t ≡ true → WritesText old (text_of form kn first m n t) r new → ReportsOne n t (account f form first kn m s old) r (account f form first kn (noted_in form kn n t m) (with_report t s) new)
 reported_text f form first kn m s old new n t (Ok u) is writes =
     let m' = noted_in form kn n t m in
     ap (λ (o : Output). account f form first kn m' (with_report t s) o) writes ∙ sym (shown_is (shows f kn first n t) (account f form first kn m' (with_report t s) (with_text old (text_of form kn first m n t))) (account f form first kn m (with_report t s) old) is)
@@ -124,7 +124,7 @@ wrote : (w v : Written) (text : List ℕ) (r : Result (Unit {0}) SinkFault) → 
 wrote w v text r e g writes known =
     known_text w v w.given v.given w.failures v.failures w.lender text r (λ i. record { given = w.given; failures = w.failures; waiting = e i; lender = w.lender }) refl g writes known
 
-pub reported_shown : (self : Account) (f : ExchangeFilter) (form : ExchangeForm) (first : Option ℕ) (kn : List Preparation) (m m' : Summary) (s s' : ExchangeSums) (w v : Written) (n : Connection) (t : Report) (r : Result (Unit {0}) SinkFault) → account f form first kn m s (output w.given w.failures) ≡ self → s' ≡ with_report t s → m' ≡ noted_in form kn n t m → w.waiting ≡ [] → v.waiting ≡ [] → shows f kn first n t ≡ true → Writes w (text_of form kn first m n t) r v → IsSome self.output.given → ReportsOne n t self r (account f form first kn m' s' (output v.given v.failures))
+pub reported_shown : (self : Account) (f : ExchangeFilter) (form : ExchangeForm) (first : Option ℕ) (kn : Known) (m m' : Summary) (s s' : ExchangeSums) (w v : Written) (n : Connection) (t : Report) (r : Result (Unit {0}) SinkFault) → account f form first kn m s (output w.given w.failures) ≡ self → s' ≡ with_report t s → m' ≡ noted_in form kn n t m → w.waiting ≡ [] → v.waiting ≡ [] → shows f kn first n t ≡ true → Writes w (text_of form kn first m n t) r v → IsSome self.output.given → ReportsOne n t self r (account f form first kn m' s' (output v.given v.failures))
 reported_shown self f form first kn m m' s s' w v n t r view sums notes e g is writes known =
     let old = account f form first kn m s (output w.given w.failures) in
     let holds : IsSome w.given → ReportsOne n t old r (account f form first kn m' s' (output v.given v.failures)) =
@@ -133,7 +133,7 @@ reported_shown self f form first kn m m' s s' w v n t r view sums notes e g is w
     (reported_text f form first kn m s (output w.given w.failures) (output v.given v.failures) n t r is (wrote w v (text_of form kn first m n t) r e g writes k))) in
     subst (λ (a : Account). IsSome a.output.given → ReportsOne n t a r (account f form first kn m' s' (output v.given v.failures))) view holds known
 
-pub reported_hidden : (self : Account) (f : ExchangeFilter) (form : ExchangeForm) (first : Option ℕ) (kn : List Preparation) (m : Summary) (s s' : ExchangeSums) (o : Output) (n : Connection) (t : Report) → account f form first kn m s o ≡ self → s' ≡ with_report t s → shows f kn first n t ≡ false → account f form first kn m s' o ≡ with_shown n t self
+pub reported_hidden : (self : Account) (f : ExchangeFilter) (form : ExchangeForm) (first : Option ℕ) (kn : Known) (m : Summary) (s s' : ExchangeSums) (o : Output) (n : Connection) (t : Report) → account f form first kn m s o ≡ self → s' ≡ with_report t s → shows f kn first n t ≡ false → account f form first kn m s' o ≡ with_shown n t self
 reported_hidden self f form first kn m s s' o n t view sums is =
     ap (λ (z : ExchangeSums). account f form first kn m z o) sums
     ∙ sym (hidden_is (shows f kn first n t) (account f form first kn (noted_in form kn n t m) (with_report t s) (with_text o (text_of form kn first m n t))) (account f form first kn m (with_report t s) o) is)
@@ -141,11 +141,11 @@ reported_hidden self f form first kn m s s' o n t view sums is =
 
 -- ---- the end
 
-finish_text : (f : ExchangeFilter) (form : ExchangeForm) (first : Option ℕ) (kn : List Preparation) (m : Summary) (s : ExchangeSums) (old new : Output) (r : Result (Unit {0}) SinkFault) → WritesText old (ending_of form m) r new → Finishes (account f form first kn m s old) r (account f form first kn m s new)
+finish_text : (f : ExchangeFilter) (form : ExchangeForm) (first : Option ℕ) (kn : Known) (m : Summary) (s : ExchangeSums) (old new : Output) (r : Result (Unit {0}) SinkFault) → WritesText old (ending_of form m) r new → Finishes (account f form first kn m s old) r (account f form first kn m s new)
 finish_text f form first kn m s old new (Ok u) writes = ap (λ (o : Output). account f form first kn m s o) writes
 finish_text f form first kn m s old new (Err e) writes = (refl, writes)
 
-pub finishes : (self : Account) (f : ExchangeFilter) (form : ExchangeForm) (first : Option ℕ) (kn : List Preparation) (m : Summary) (s : ExchangeSums) (w v : Written) (r : Result (Unit {0}) SinkFault) → account f form first kn m s (output w.given w.failures) ≡ self → w.waiting ≡ [] → v.waiting ≡ [] → Writes w (ending_of form m) r v → IsSome self.output.given → Finishes self r (account f form first kn m s (output v.given v.failures))
+pub finishes : (self : Account) (f : ExchangeFilter) (form : ExchangeForm) (first : Option ℕ) (kn : Known) (m : Summary) (s : ExchangeSums) (w v : Written) (r : Result (Unit {0}) SinkFault) → account f form first kn m s (output w.given w.failures) ≡ self → w.waiting ≡ [] → v.waiting ≡ [] → Writes w (ending_of form m) r v → IsSome self.output.given → Finishes self r (account f form first kn m s (output v.given v.failures))
 finishes self f form first kn m s w v r view e g writes known =
     let holds : IsSome w.given → Finishes (account f form first kn m s (output w.given w.failures)) r (account f form first kn m s (output v.given v.failures)) =
     λ k. finish_text f form first kn m s (output w.given w.failures) (output v.given v.failures) r (wrote w v (ending_of form m) r e g writes k) in

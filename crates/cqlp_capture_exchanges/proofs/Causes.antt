@@ -11,6 +11,7 @@ use Rattle.cqlp_capture_streams.specs.ConnectionEvents.{ConnectionEvent, Packet,
 use Rattle.cqlp_capture_streams.specs.Streams.{ReadsCapture}
 use Rattle.cqlp_capture_streams.proofs.Finished.{buffered_cause}
 use Rattle.cqlp_capture_streams.proofs.Causes.{EndedBy, EndedIfFault, FailsSo, ended_noted, fault_cause, none_failed}
+use Rattle.cqlp_statement_file.specs.Texts.{Texts}
 use Rattle.cqlp_capture_exchanges.specs.declared.connection.Connection.{Connection}
 use Rattle.cqlp_capture_exchanges.specs.declared.filter.ExchangeFilter.{ExchangeFilter}
 use Rattle.cqlp_capture_exchanges.specs.declared.form.ExchangeForm.{ExchangeForm}
@@ -59,9 +60,9 @@ stops v w s (fault.File f) a = absurd a
 
 -- ---- the end
 
-module _ (limits : StreamsLimits) (most : ExchangeLimits) (filter : ExchangeFilter) (form : ExchangeForm) (ports xs : List ℕ) (m : ReadsMade) (left : Option (List ℕ)) (out : Output) (w : Listening) where
+module _ (limits : StreamsLimits) (most : ExchangeLimits) (given : Texts) (filter : ExchangeFilter) (form : ExchangeForm) (ports xs : List ℕ) (m : ReadsMade) (left : Option (List ℕ)) (out : Output) (w : Listening) where
   abbrev first : Listening
-  first = new_listening most filter form out
+  first = new_listening most given filter form out
 
   closed : (read r : Result CaptureRead StreamsFault) (out' : Output) → ReadsCapture with_connection_event StopsAt limits ports xs m read left first w → Closes w.account read r out' → EndedIfFault m r out.failures out'.failures
   closed (Err f) r out' a (is, same) =
@@ -80,7 +81,7 @@ module _ (limits : StreamsLimits) (most : ExchangeLimits) (filter : ExchangeFilt
   well_closed (Ok y) (Err f) out' x well a c = absurd (let no = well in cc)
 
 pub exchanges_causes : FaultsHaveCauses
-exchanges_causes b limits most filter form ports xs m left out err out' err' (r, sums, missed, (mid, whole, (w, read, reads, are, miss, closes), buffers), ends) =
-    let well = λ (x : CaptureRead) (is : mid ≡ Ok x). well_closed limits most filter form ports xs m left out w read mid whole x is reads closes in
-    let cause = closed limits most filter form ports xs m left out w read mid whole reads closes in
+exchanges_causes b limits most given filter form ports xs m left out err out' err' (r, sums, missed, (mid, whole, (w, read, reads, are, miss, closes), buffers), ends) =
+    let well = λ (x : CaptureRead) (is : mid ≡ Ok x). well_closed limits most given filter form ports xs m left out w read mid whole x is reads closes in
+    let cause = closed limits most given filter form ports xs m left out w read mid whole reads closes in
     ended_noted ports (note_text (losses_of limits most r sums missed)) (last_words limits most sums missed r) m r out err out' err' (buffered_cause b m mid r out.failures whole out' well cause buffers) ends

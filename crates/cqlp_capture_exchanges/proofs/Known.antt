@@ -9,6 +9,7 @@ use Rattle.cqlp_capture_streams.specs.declared.limits.StreamsLimits.{StreamsLimi
 use Rattle.cqlp_capture_streams.specs.Captures.{ReadsMade}
 use Rattle.cqlp_capture_streams.proofs.Keeping.{kept}
 use Rattle.cqlp_observer.specs.declared.missed.Missed.{Missed}
+use Rattle.cqlp_statement_file.specs.Texts.{Texts}
 use Rattle.cqlp_capture_exchanges.specs.declared.connection.Connection.{Connection}
 use Rattle.cqlp_capture_exchanges.specs.declared.filter.ExchangeFilter.{ExchangeFilter}
 use Rattle.cqlp_capture_exchanges.specs.declared.form.ExchangeForm.{ExchangeForm}
@@ -40,10 +41,10 @@ closes_known a (Err f) r out (is, same) k = subst (λ (o : Output). IsSome o.giv
 closes_known a (Ok x) (Ok y) out (is, same) k = known_more a.output.given out.given (ending a) (ap (λ (o : Output). o.given) same) k
 closes_known a (Ok x) (Err f) out (is, within) k = known_more a.output.given out.given within.sent within.given k
 
-pub listens_known : (c : StreamsLimits) (l : ExchangeLimits) (filter : ExchangeFilter) (form : ExchangeForm) (ports xs : List ℕ) (m : ReadsMade) (r : Result CaptureRead StreamsFault) (left : Option (List ℕ)) (out : Output) (sums : ExchangeSums) (missed : Missed) (out' : Output) → Listens c l filter form ports xs m r left out sums missed out' → IsSome out.given → IsSome out'.given
-listens_known c l filter form ports xs m r left out sums missed out' (w, read, reads, are, miss, closes) k =
+pub listens_known : (c : StreamsLimits) (l : ExchangeLimits) (given : Texts) (filter : ExchangeFilter) (form : ExchangeForm) (ports xs : List ℕ) (m : ReadsMade) (r : Result CaptureRead StreamsFault) (left : Option (List ℕ)) (out : Output) (sums : ExchangeSums) (missed : Missed) (out' : Output) → Listens c l given filter form ports xs m r left out sums missed out' → IsSome out.given → IsSome out'.given
+listens_known c l given filter form ports xs m r left out sums missed out' (w, read, reads, are, miss, closes) k =
     closes_known w.account read r out' closes
-    (kept with_connection_event StopsAt IsKnown (λ v s p. heard_known v (with_connection_event v s) s refl p) (λ v x s e a p. among e (connection_of s) (change_of s v).reports v.account x.account a p) c ports xs m read left (new_listening l filter form out) w reads k)
+    (kept with_connection_event StopsAt IsKnown (λ v s p. heard_known v (with_connection_event v s) s refl p) (λ v x s e a p. among e (connection_of s) (change_of s v).reports v.account x.account a p) c ports xs m read left (new_listening l given filter form out) w reads k)
 
 -- nothing waits yet
 pub nothing_waits : (given : Option (List ℕ)) (failures : ℕ) (waiting : List ℕ) → waiting ≡ [] → output (append_known given waiting) failures ≡ output given failures

@@ -51,10 +51,10 @@ abbrev words_of : StreamsLimits → ExchangeLimits → Listening → Result Capt
 words_of c l w r = last_words c l (sums_of w) (missed_of w) r
 
 pub exchanges_once : OneAnswerOfWriteExchanges
-exchanges_once b b' limits most filter form ports xs out err made made' left left' status status' out' out'' err' err'' (r, sums, missed, (mid, whole, (w, read, reads, are, miss, closes), buffers), ends) well (r', sums', missed', (mid', whole', (w', read', reads', are', miss', closes'), buffers'), ends') well' =
+exchanges_once b b' limits most given filter form ports xs out err made made' left left' status status' out' out'' err' err'' (r, sums, missed, (mid, whole, (w, read, reads, are, miss, closes), buffers), ends) well (r', sums', missed', (mid', whole', (w', read', reads', are', miss', closes'), buffers'), ends') well' =
     let c = ended b ports w.account read mid r whole out' err err' status (note_text (losses_of limits most r sums missed)) (last_words limits most sums missed r) ends well buffers closes in
     let c' = ended b' ports w'.account read' mid' r' whole' out'' err err'' status' (note_text (losses_of limits most r' sums' missed')) (last_words limits most sums' missed' r') ends' well' buffers' closes' in
     let e = reported_of limits most ports w sums missed read r err err' status are miss c.0 ends in
     let e' = reported_of limits most ports w' sums' missed' read' r' err err'' status' are' miss' c'.0 ends' in
-    let one = runs_noted with_connection_event StopsAt (note_of limits most) (words_of limits most) limits ports xs (new_listening most filter form out) w w' made made' left left' read read' err err' err'' status status' reads e well reads' e' well' in
+    let one = runs_noted with_connection_event StopsAt (note_of limits most) (words_of limits most) limits ports xs (new_listening most given filter form out) w w' made made' left left' read read' err err' err'' status status' reads e well reads' e' well' in
     (one.0, c'.1 ∙ ap (λ (z : Listening). with_text z.account.output (ending z.account)) one.1 ∙ sym c.1, one.2)

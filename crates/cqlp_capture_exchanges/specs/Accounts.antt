@@ -13,7 +13,7 @@ use Rattle.cqlp_tcp_connections.specs.Totals.{counted}
 use Rattle.cqlp_capture_exchanges.specs.declared.connection.Connection.{Connection}
 use Rattle.cqlp_capture_exchanges.specs.declared.filter.ExchangeFilter.{ExchangeFilter}
 use Rattle.cqlp_capture_exchanges.specs.declared.form.ExchangeForm.{ExchangeForm}
-use Rattle.cqlp_capture_exchanges.specs.Prepared.{known_after, Preparation}
+use Rattle.cqlp_capture_exchanges.specs.Prepared.{Known, known_after}
 use Rattle.cqlp_capture_exchanges.specs.Reports.{Report, Messages, Unread}
 use Rattle.cqlp_capture_exchanges.specs.declared.sums.ExchangeSums.{ExchangeSums}
 use Rattle.cqlp_capture_exchanges.specs.Filters.{shows}
@@ -46,12 +46,12 @@ pub record Account : Type 0 where
   pub filter : ExchangeFilter
   pub form : ExchangeForm
   pub first : Option ℕ
-  pub known : List Preparation
+  pub known : Known
   pub summary : Summary
   pub sums : ExchangeSums
   pub output : Output
 
-abbrev pub account : ExchangeFilter → ExchangeForm → Option ℕ → List Preparation → Summary → ExchangeSums → Output → Account
+abbrev pub account : ExchangeFilter → ExchangeForm → Option ℕ → Known → Summary → ExchangeSums → Output → Account
 account filter form first known summary sums output =
     record { filter = filter; form = form; first = first; known = known; summary = summary; sums = sums; output = output }
 

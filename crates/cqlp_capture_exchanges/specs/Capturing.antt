@@ -12,6 +12,7 @@ use Rattle.cqlp_capture_streams.specs.Buffers.{Buffers}
 use Rattle.cqlp_capture_streams.specs.Endings.{ConcludesNoted}
 use Rattle.cqlp_observer.specs.declared.missed.Missed.{Missed}
 use Rattle.cqlp_capture_streams.specs.Causes.{HasCause}
+use Rattle.cqlp_statement_file.specs.Texts.{Texts}
 use Rattle.cqlp_capture_exchanges.specs.declared.pool.ExchangeLimits.{ExchangeLimits}
 use Rattle.cqlp_capture_exchanges.specs.declared.filter.ExchangeFilter.{ExchangeFilter}
 use Rattle.cqlp_capture_exchanges.specs.declared.form.ExchangeForm.{ExchangeForm}
@@ -48,39 +49,39 @@ Closes a (Ok x) (Ok y) out = (y ≡ x) × (out ≡ with_text a.output (ending a)
 Closes a (Ok x) (Err f) out = (f ≡ fault.Write) × StopsWithin a.output (ending a) out
 
 -- What was heard of an input with the bytes xs by so many reads, what that was, and what was written.
-abbrev pub Listens : StreamsLimits → ExchangeLimits → ExchangeFilter → ExchangeForm → (ports : List ℕ) → (xs : List ℕ) → ReadsMade
+abbrev pub Listens : StreamsLimits → ExchangeLimits → Texts → ExchangeFilter → ExchangeForm → (ports : List ℕ) → (xs : List ℕ) → ReadsMade
     → Result CaptureRead StreamsFault → (left : Option (List ℕ)) → (out : Output) → ExchangeSums → Missed → (out' : Output) → Type 0
-Listens c l filter form ports xs m r left out sums missed out' =
+Listens c l given filter form ports xs m r left out sums missed out' =
     (w : Listening) × (read : Result CaptureRead StreamsFault)
-    × ReadsCapture with_connection_event StopsAt c ports xs m read left (new_listening l filter form out) w
+    × ReadsCapture with_connection_event StopsAt c ports xs m read left (new_listening l given filter form out) w
     × (sums ≡ w.account.sums) × (missed ≡ w.table.missed) × Closes w.account read r out'
 
 -- The lines went to the output at once, or in blocks.
-abbrev pub ListensBy : Buffering → StreamsLimits → ExchangeLimits → ExchangeFilter → ExchangeForm → (ports : List ℕ) → (xs : List ℕ) → ReadsMade
+abbrev pub ListensBy : Buffering → StreamsLimits → ExchangeLimits → Texts → ExchangeFilter → ExchangeForm → (ports : List ℕ) → (xs : List ℕ) → ReadsMade
     → Result CaptureRead StreamsFault → (left : Option (List ℕ)) → (out : Output) → ExchangeSums → Missed → (out' : Output) → Type 0
-ListensBy b c l filter form ports xs m r left out sums missed out' =
+ListensBy b c l given filter form ports xs m r left out sums missed out' =
     (read : Result CaptureRead StreamsFault) × (whole : Output)
-    × Listens c l filter form ports xs m read left out sums missed whole × Buffers b read whole r out'
+    × Listens c l given filter form ports xs m read left out sums missed whole × Buffers b read whole r out'
 
 -- Its exchanges were written, and then the lines of how it ended, with its status.
-abbrev pub WritesExchanges : Buffering → StreamsLimits → ExchangeLimits → ExchangeFilter → ExchangeForm → (ports : List ℕ) → (xs : List ℕ) → ReadsMade
+abbrev pub WritesExchanges : Buffering → StreamsLimits → ExchangeLimits → Texts → ExchangeFilter → ExchangeForm → (ports : List ℕ) → (xs : List ℕ) → ReadsMade
     → (left : Option (List ℕ)) → (out err : Output) → (status : ℕ) → (out' err' : Output) → Type 0
-WritesExchanges b c l filter form ports xs m left out err status out' err' =
-    (r : Result CaptureRead StreamsFault) × (sums : ExchangeSums) × (missed : Missed) × ListensBy b c l filter form ports xs m r left out sums missed out'
+WritesExchanges b c l given filter form ports xs m left out err status out' err' =
+    (r : Result CaptureRead StreamsFault) × (sums : ExchangeSums) × (missed : Missed) × ListensBy b c l given filter form ports xs m r left out sums missed out'
     × ConcludesSums c l ports sums missed r err status err'
 
 -- Where nothing outside fails, so that the status is not that of a fault, the same bytes, limits, ports, filter, form and outputs lead to the
 -- same status, the same text and the same last line, at once or in blocks.
 abbrev pub OneAnswerOfWriteExchanges : Type 0
 OneAnswerOfWriteExchanges =
-    (b b' : Buffering) (c : StreamsLimits) (l : ExchangeLimits) (filter : ExchangeFilter) (form : ExchangeForm) (ports xs : List ℕ) (out err : Output) (m n : ReadsMade) (left left' : Option (List ℕ))
+    (b b' : Buffering) (c : StreamsLimits) (l : ExchangeLimits) (given : Texts) (filter : ExchangeFilter) (form : ExchangeForm) (ports xs : List ℕ) (out err : Output) (m n : ReadsMade) (left left' : Option (List ℕ))
     (status status' : ℕ) (out' out'' err' err'' : Output)
-    → WritesExchanges b c l filter form ports xs m left out err status out' err' → status ≢ 3
-    → WritesExchanges b' c l filter form ports xs n left' out err status' out'' err'' → status' ≢ 3
+    → WritesExchanges b c l given filter form ports xs m left out err status out' err' → status ≢ 3
+    → WritesExchanges b' c l given filter form ports xs n left' out err status' out'' err'' → status' ≢ 3
     → (status' ≡ status) × (out'' ≡ out') × (err'' ≡ err')
 
 -- The status is that of a fault only where something outside failed, or the line says that there was no memory or no end.
 abbrev pub FaultsHaveCauses : Type 0
 FaultsHaveCauses =
-    (b : Buffering) (c : StreamsLimits) (l : ExchangeLimits) (filter : ExchangeFilter) (form : ExchangeForm) (ports xs : List ℕ) (m : ReadsMade) (left : Option (List ℕ)) (out err out' err' : Output)
-    → WritesExchanges b c l filter form ports xs m left out err 3 out' err' → HasCause m out err out' err'
+    (b : Buffering) (c : StreamsLimits) (l : ExchangeLimits) (given : Texts) (filter : ExchangeFilter) (form : ExchangeForm) (ports xs : List ℕ) (m : ReadsMade) (left : Option (List ℕ)) (out err out' err' : Output)
+    → WritesExchanges b c l given filter form ports xs m left out err 3 out' err' → HasCause m out err out' err'

@@ -21,10 +21,15 @@ use Rattle.cqlp_capture_exchanges.specs.declared.filter.EndFilter.{EndFilter}
 use Rattle.cqlp_capture_exchanges.specs.declared.filter.ExchangeFilter.{ExchangeFilter}
 use Rattle.cqlp_capture_exchanges.specs.declared.filter.Moment.{Moment}
 use Rattle.cqlp_capture_exchanges.specs.declared.filter.Moment.TheVariants as moment
+use Rattle.cqlp_capture_exchanges.specs.declared.filter.ReplyKind.{ReplyKind}
+use Rattle.cqlp_capture_exchanges.specs.declared.filter.ReplyKind.TheVariants as kind
 use Rattle.cqlp_capture_exchanges.specs.declared.part.StatementPart.{StatementPart}
 use Rattle.cqlp_capture_exchanges.specs.Parts.{bytes_of, is_part}
-use Rattle.cqlp_capture_exchanges.specs.Prepared.{named, Preparation}
+use Rattle.cqlp_capture_exchanges.specs.Prepared.{Known, named}
+use Rattle.cqlp_capture_exchanges.specs.Replies.{reply}
 use Rattle.cqlp_capture_exchanges.specs.Reports.{Report, Messages, Unread}
+use Rattle.cqlp_capture_exchanges.specs.declared.reply.Reply.{Reply}
+use Rattle.cqlp_capture_exchanges.specs.declared.reply.Reply.TheVariants as reply_as
 use Rattle.cqlp_capture_exchanges.specs.Statements.{Said, Text, Id, statement}
 use Rattle.cqlp_capture_exchanges.specs.declared.span.Span.{Span}
 use Rattle.cqlp_capture_exchanges.specs.Spans.{is_short, time_between, took}
@@ -109,6 +114,35 @@ abbrev pub is_asking : (asked : Option Opcode) → Report → Bool
 is_asking None r = true
 is_asking (Some o) r = reported_asking o r
 
+-- ---- The reply is of the kind that is asked for, or the response that is alone.
+
+abbrev pub is_result_of : (number : ℕ) → Reply → Bool
+is_result_of n (reply_as.Result kind) = kind == n
+is_result_of n r = false
+
+abbrev pub is_error_with : (code : ℕ) → Reply → Bool
+is_error_with n (reply_as.Error code) = code == n
+is_error_with n r = false
+
+abbrev pub has_kind : ReplyKind → Message Kept → Bool
+has_kind (kind.Result n) m = is_result_of n (reply m.frame.header m.kept.front)
+has_kind (kind.Error code) m = is_error_with code (reply m.frame.header m.kept.front)
+has_kind (kind.Response o) m = has_opcode o m.frame
+
+abbrev pub replied_by : ReplyKind → Paired Kept → Bool
+replied_by k (Exchange request response) = has_kind k response
+replied_by k (Unanswered request) = false
+replied_by k (Unasked response) = has_kind k response
+replied_by k (Event event) = has_kind k event
+
+abbrev pub reported_replied : ReplyKind → Report → Bool
+reported_replied k (Messages t end) = replied_by k t
+reported_replied k (Unread time opening) = false
+
+abbrev pub is_replied : (asked : Option ReplyKind) → Report → Bool
+is_replied None r = true
+is_replied (Some k) r = reported_replied k r
+
 -- ---- Its first byte came at a time that is asked for: since the first packet, or since 1970-01-01 00:00:00 UTC.
 
 abbrev pub begun_in : Paired Kept → Option ℕ
@@ -145,27 +179,27 @@ says part None = false
 says part (Some (Text text is_whole)) = is_part part text
 says part (Some (Id id is_whole)) = false
 
-abbrev pub request_says : (known : List Preparation) → (part : List ℕ) → Message Kept → Bool
+abbrev pub request_says : (known : Known) → (part : List ℕ) → Message Kept → Bool
 request_says known part m = says part (named known (statement m.frame.header m.kept.front))
 
-abbrev pub paired_says : (known : List Preparation) → (part : List ℕ) → Paired Kept → Bool
+abbrev pub paired_says : (known : Known) → (part : List ℕ) → Paired Kept → Bool
 paired_says known part (Exchange request response) = request_says known part request
 paired_says known part (Unanswered request) = request_says known part request
 paired_says known part (Unasked response) = false
 paired_says known part (Event event) = false
 
-abbrev pub reported_saying : (known : List Preparation) → (part : List ℕ) → Report → Bool
+abbrev pub reported_saying : (known : Known) → (part : List ℕ) → Report → Bool
 reported_saying known part (Messages t end) = paired_says known part t
 reported_saying known part (Unread time o) = false
 
-abbrev pub is_saying : (asked : Option StatementPart) → (known : List Preparation) → Report → Bool
+abbrev pub is_saying : (asked : Option StatementPart) → (known : Known) → Report → Bool
 is_saying None known r = true
 is_saying (Some part) known r = reported_saying known (bytes_of part) r
 
 -- ---- all that is asked for
 
-abbrev pub shows : ExchangeFilter → (known : List Preparation) → (first : Option ℕ) → Connection → Report → Bool
+abbrev pub shows : ExchangeFilter → (known : Known) → (first : Option ℕ) → Connection → Report → Bool
 shows f known first n r =
     is_of f.connection n.number && is_between f n.ends && is_slow f.slow r
-    && (not f.errors || is_trouble r) && is_asking f.opcode r && is_within f first (begun r)
-    && is_saying f.statement known r
+    && (not f.errors || is_trouble r) && is_asking f.opcode r && is_replied f.kind r
+    && is_within f first (begun r) && is_saying f.statement known r

@@ -3,6 +3,7 @@ use Rattle.std.specs.Prelude.{◌≡◌, ℕ, List, Option, option_map, Ok}
 use Rattle.cqlp_note.specs.declared.header.Header.{Header}
 use Rattle.cqlp_text.specs.Outputs.{Output}
 use Rattle.cqlp_capture_streams.specs.ConnectionEvents.{ConnectionEvent}
+use Rattle.cqlp_statement_file.specs.Texts.{Texts}
 use Rattle.cqlp_capture_exchanges.specs.declared.pool.ExchangeLimits.{ExchangeLimits}
 use Rattle.cqlp_capture_exchanges.specs.declared.filter.ExchangeFilter.{ExchangeFilter}
 use Rattle.cqlp_capture_exchanges.specs.declared.form.ExchangeForm.{ExchangeForm}
@@ -12,8 +13,8 @@ use Rattle.cqlp_capture_exchanges.specs.Listening.{Hears, Listening, new_listeni
 
 abbrev pub OneAnswerOfNew : Type 0
 OneAnswerOfNew =
-    (limits : ExchangeLimits) (filter : ExchangeFilter) (form : ExchangeForm) (out : Output) (e f : Listening)
-    → e ≡ new_listening limits filter form out → f ≡ new_listening limits filter form out → f ≡ e
+    (limits : ExchangeLimits) (given : Texts) (filter : ExchangeFilter) (form : ExchangeForm) (out : Output) (e f : Listening)
+    → e ≡ new_listening limits given filter form out → f ≡ new_listening limits given filter form out → f ≡ e
 
 -- where the output does not fail
 abbrev pub OneAnswerOfHear : Type 0

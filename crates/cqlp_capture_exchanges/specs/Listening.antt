@@ -4,6 +4,7 @@ use Rattle.cqlp_text.specs.Outputs.{Output}
 use Rattle.cqlp_capture_summary.specs.Summaries.{new_summary}
 use Rattle.cqlp_capture_streams.specs.declared.fault.StreamsFault.{StreamsFault}
 use Rattle.cqlp_capture_streams.specs.ConnectionEvents.{ConnectionEvent, Packet, New, Of, Left}
+use Rattle.cqlp_statement_file.specs.Texts.{Texts}
 use Rattle.cqlp_capture_exchanges.specs.declared.connection.Connection.{Connection}
 use Rattle.cqlp_capture_exchanges.specs.declared.filter.ExchangeFilter.{ExchangeFilter}
 use Rattle.cqlp_capture_exchanges.specs.declared.form.ExchangeForm.{ExchangeForm}
@@ -11,6 +12,7 @@ use Rattle.cqlp_capture_exchanges.specs.declared.pool.ExchangeLimits.{ExchangeLi
 use Rattle.cqlp_capture_exchanges.specs.Accounts.{Account, FailsAmong, account, no_sums, since, with_all}
 use Rattle.cqlp_capture_exchanges.specs.Connections.{of_delivery, of_totals, unreported}
 use Rattle.cqlp_capture_exchanges.specs.Forms.{statements_in}
+use Rattle.cqlp_capture_exchanges.specs.Prepared.{known_of}
 use Rattle.cqlp_capture_exchanges.specs.Tables.{Change, Table, begins, change, leaves, new_table, takes_delivery}
 
 -- the connections that are watched, when the present packet came, and what was reported
@@ -22,9 +24,9 @@ pub record Listening : Type 0 where
 abbrev pub listening : Table → (present : Option ℕ) → Account → Listening
 listening table present a = record { table = table; present = present; account = a }
 
-abbrev pub new_listening : ExchangeLimits → ExchangeFilter → ExchangeForm → Output → Listening
-new_listening limits filter form out =
-    listening (new_table limits) None (account filter form None [] (new_summary (statements_in form)) no_sums out)
+abbrev pub new_listening : ExchangeLimits → Texts → ExchangeFilter → ExchangeForm → Output → Listening
+new_listening limits given filter form out =
+    listening (new_table limits) None (account filter form None (known_of [] given) (new_summary (statements_in form)) no_sums out)
 
 -- ---- what an event of a connection does: which connection it is of, what is reported of that, and the time
 

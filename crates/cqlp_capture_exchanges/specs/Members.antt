@@ -1,5 +1,5 @@
 -- Members of JSON objects: their keys and values (RFC 8259).
-use Rattle.std.specs.Prelude.{ℕ, ℤ, pos, ◌+◌, ◌/◌, ◌%◌, ◌^◌, nat_lt, List, [], ◌∷◌, ◌++◌, codes, decimal, Option, Some, None, if◌then◌else◌}
+use Rattle.std.specs.Prelude.{ℕ, ℤ, pos, ◌+◌, ◌/◌, ◌%◌, ◌^◌, nat_lt, Bool, List, [], ◌∷◌, ◌++◌, codes, decimal, Option, Some, None, if◌then◌else◌}
 use Rattle.std.specs.Fmt.{signed_decimal}
 use Rattle.uuid.specs.Text.{hyphenated_text, lower}
 use Rattle.cqlp_note.specs.Heading.{beside_number}
@@ -59,7 +59,7 @@ abbrev pub name_or_code : Option (List ℕ) → (code : ℕ) → List ℕ
 name_or_code (Some name) code = word name
 name_or_code None code = number code
 
--- ---- numbers and ids, where they are known
+-- ---- values, where they are known
 
 abbrev pub signed_or_null : Option ℤ → List ℕ
 signed_or_null None = null
@@ -69,9 +69,21 @@ abbrev pub number_or_null : Option ℕ → List ℕ
 number_or_null None = null
 number_or_null (Some n) = number n
 
+abbrev pub flag_or_null : Option Bool → List ℕ
+flag_or_null None = null
+flag_or_null (Some b) = boolean_text b
+
 abbrev pub uuid_or_null : Option (List ℕ) → List ℕ
 uuid_or_null None = null
 uuid_or_null (Some id) = uuid id
+
+abbrev pub string_or_null : Option (List ℕ) → List ℕ
+string_or_null None = null
+string_or_null (Some text) = string text
+
+abbrev pub hex_or_null : Option (List ℕ) → List ℕ
+hex_or_null None = null
+hex_or_null (Some bytes) = hex bytes
 
 abbrev pub consistency_or_null : Option ℕ → List ℕ
 consistency_or_null None = null

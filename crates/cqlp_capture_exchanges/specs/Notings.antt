@@ -20,7 +20,7 @@ use Rattle.cqlp_capture_exchanges.specs.declared.summary_by.SummaryBy.{SummaryBy
 use Rattle.cqlp_capture_exchanges.specs.declared.summary_by.SummaryBy.TheVariants as by
 use Rattle.cqlp_capture_exchanges.specs.Ends.{end_text, ip_text}
 use Rattle.cqlp_capture_exchanges.specs.Lines.{name_or_number, said_text}
-use Rattle.cqlp_capture_exchanges.specs.Prepared.{named, Preparation}
+use Rattle.cqlp_capture_exchanges.specs.Prepared.{Known, named}
 use Rattle.cqlp_capture_exchanges.specs.Replies.{error_names, reply}
 use Rattle.cqlp_capture_exchanges.specs.Reports.{Report, Messages, Unread}
 use Rattle.cqlp_capture_exchanges.specs.declared.naming.Naming.{Naming}
@@ -111,7 +111,7 @@ noted_named n (Some (Text text is_whole)) q o s = noted_as n (text_request text 
 noted_named n (Some (Id id is_whole)) q o s = noted_request (id_request id is_whole q o) s
 noted_named n None q o s = noted_as n (opcode_request q o) s
 
-abbrev pub with_request : Naming → (known : List Preparation) → Message Kept → Outcome → Summary → Summary
+abbrev pub with_request : Naming → (known : Known) → Message Kept → Outcome → Summary → Summary
 with_request n known q o s = noted_named n (named known (statement q.frame.header q.kept.front)) q o s
 
 -- ---- the error of a reply
@@ -156,21 +156,21 @@ abbrev pub table_of : Option Said → Option (List ℕ)
 table_of (Some (Text text is_whole)) = table_name text is_whole
 table_of s = None
 
-abbrev pub with_table : (known : List Preparation) → Message Kept → Outcome → Summary → Summary
+abbrev pub with_table : (known : Known) → Message Kept → Outcome → Summary → Summary
 with_table known q o s = noted_request (table_request (table_of (named known (statement q.frame.header q.kept.front))) q o) s
 
 -- ---- by what is asked for
 
-abbrev pub with_request_by : SummaryBy → (known : List Preparation) → Connection → Message Kept → Outcome → Summary → Summary
+abbrev pub with_request_by : SummaryBy → (known : Known) → Connection → Message Kept → Outcome → Summary → Summary
 with_request_by (by.Statement m) known n q o s = with_request m known q o s
 with_request_by by.Table known n q o s = with_table known q o s
 with_request_by (by.Attribute a) known n q o s = with_attribute a n q o s
 
-abbrev pub with_paired : SummaryBy → (known : List Preparation) → Connection → Paired Kept → Summary → Summary
+abbrev pub with_paired : SummaryBy → (known : Known) → Connection → Paired Kept → Summary → Summary
 with_paired b known n (Exchange q r) s = with_request_by b known n q (answered_by q r) s
 with_paired b known n (Unanswered q) s = with_request_by b known n q (unanswered q) s
 with_paired b known n p s = s
 
-abbrev pub with_report : SummaryBy → (known : List Preparation) → Connection → Report → Summary → Summary
+abbrev pub with_report : SummaryBy → (known : Known) → Connection → Report → Summary → Summary
 with_report b known n (Messages p end) s = with_paired b known n p s
 with_report b known n (Unread time o) s = s

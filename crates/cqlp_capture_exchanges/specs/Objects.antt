@@ -16,14 +16,19 @@ use Rattle.cqlp_observer.specs.declared.opening.Opening.TheVariants as opening
 use Rattle.cqlp_observer.specs.declared.paired.Paired.{Paired}
 use Rattle.cqlp_observer.specs.declared.paired.Paired.TheVariants.{Exchange, Unanswered, Unasked, Event}
 use Rattle.cqlp_capture_exchanges.specs.declared.connection.Connection.{Connection}
-use Rattle.cqlp_capture_exchanges.specs.Prepared.{named, Preparation}
+use Rattle.cqlp_capture_exchanges.specs.DetailsObjects.{details_member}
+use Rattle.cqlp_capture_exchanges.specs.ErrorDetails.{details}
+use Rattle.cqlp_capture_exchanges.specs.Prepared.{Known, named}
+use Rattle.cqlp_capture_exchanges.specs.declared.form.ValuesShown.{ValuesShown}
+use Rattle.cqlp_capture_exchanges.specs.Bound.{values_members_if}
 use Rattle.cqlp_capture_exchanges.specs.declared.reply.Reply.{Reply}
 use Rattle.cqlp_capture_exchanges.specs.declared.reply.Reply.TheVariants as reply_as
 use Rattle.cqlp_capture_exchanges.specs.declared.report.ConnectionEnd.{ConnectionEnd}
 use Rattle.cqlp_capture_exchanges.specs.declared.report.ConnectionEnd.TheVariants as ending
 use Rattle.cqlp_capture_exchanges.specs.Reports.{Report, Messages, Unread}
 use Rattle.cqlp_capture_exchanges.specs.declared.span.Span.{Span}
-use Rattle.cqlp_capture_exchanges.specs.Members.{consistency_or_null, end_value, name_or_code, null, number, number_or_null, seconds_or_null, signed_or_null, utc_or_null, uuid_or_null}
+use Rattle.cqlp_capture_exchanges.specs.Members.{consistency_or_null, end_value, flag_or_null, name_or_code, null, number}
+use Rattle.cqlp_capture_exchanges.specs.Members.{number_or_null, seconds_or_null, signed_or_null, utc_or_null, uuid_or_null}
 use Rattle.cqlp_capture_exchanges.specs.Replies.{error_names, kind_names, message, reply}
 use Rattle.cqlp_capture_exchanges.specs.Spans.{is_whole, time_between, took}
 use Rattle.cqlp_capture_exchanges.specs.Statements.{Said, Text, Id, statement, statements}
@@ -67,13 +72,15 @@ request_frame_members f =
     ∷ member "request_is_whole" (boolean_text (is_whole f.extent)) ∷ member "request_is_compressed" (boolean_text (has f.header.flags 0x01)) ∷ []
 
 abbrev pub query_members : Facts → Members
-query_members f = member "consistency" (consistency_or_null f.consistency) ∷ member "page_size" (signed_or_null f.page_size) ∷ []
+query_members f =
+    member "consistency" (consistency_or_null f.consistency) ∷ member "page_size" (signed_or_null f.page_size)
+    ∷ member "has_paging_state" (flag_or_null f.has_paging_state) ∷ []
 
-abbrev pub request_members : (known : List Preparation) → Message Kept → List ℕ
-request_members known m =
+abbrev pub request_members : (known : Known) → ValuesShown → Message Kept → List ℕ
+request_members known shown m =
     joined (texts (request_frame_members m.frame) ∷ texts (count_members (statements m.frame.header m.kept.front))
     ∷ texts (statement_members m.kept.is_text_dropped (named known (statement m.frame.header m.kept.front)))
-    ∷ texts (query_members m.kept.facts) ∷ [])
+    ∷ values_members_if shown known m ∷ texts (query_members m.kept.facts) ∷ [])
 
 -- ---- a response or an event
 
@@ -99,15 +106,19 @@ abbrev pub message_members : (is_given_up : Bool) → Option Said → Members
 message_members is_given_up (Some (Text text is_whole)) = message_as (string text) (boolean_text is_whole)
 message_members is_given_up s = message_as null (none_whole is_given_up)
 
+-- with what is behind it
+abbrev pub error_members : (is_given_up : Bool) → Reply → (front : List ℕ) → List ℕ
+error_members is_given_up r b = joined (texts (message_members is_given_up (message r b)) ∷ details_member (details r b) ∷ [])
+
 abbrev pub result_members : Facts → Members
 result_members f =
-    member "rows" (signed_or_null f.rows) ∷ member "columns" (signed_or_null f.columns) ∷ member "warnings" (number_or_null f.warnings)
-    ∷ member "tracing_id" (uuid_or_null f.trace_id) ∷ []
+    member "rows" (signed_or_null f.rows) ∷ member "columns" (signed_or_null f.columns) ∷ member "has_more_pages" (flag_or_null f.has_more_pages)
+    ∷ member "warnings" (number_or_null f.warnings) ∷ member "tracing_id" (uuid_or_null f.trace_id) ∷ []
 
 abbrev pub response_members : Message Kept → List ℕ
 response_members m =
     joined (texts (response_frame_members m.frame) ∷ texts (reply_members (reply m.frame.header m.kept.front))
-    ∷ texts (message_members m.kept.is_text_dropped (message (reply m.frame.header m.kept.front) m.kept.front))
+    ∷ error_members m.kept.is_text_dropped (reply m.frame.header m.kept.front) m.kept.front
     ∷ texts (result_members m.kept.facts) ∷ [])
 
 -- ---- the object. Where there is no request, or no response, it has none of its keys.
@@ -123,25 +134,27 @@ end_or_null (Some ending.Open) = word (codes "open")
 abbrev pub last_members : (time : Option Span) → (end : Option ConnectionEnd) → Members
 last_members time end = member "took" (seconds_or_null time) ∷ member "connection_end" (end_or_null end) ∷ []
 
-abbrev pub exchange_object : (known : List Preparation) → (first : Option ℕ) → (connection : Connection) → (request response : Message Kept) → List ℕ
-exchange_object known first n q r =
-    joined (texts (place_members (codes "exchange") first n q.frame) ∷ request_members known q ∷ response_members r
+abbrev pub exchange_object : (known : Known) → ValuesShown → (first : Option ℕ) → (connection : Connection)
+    → (request response : Message Kept) → List ℕ
+exchange_object known shown first n q r =
+    joined (texts (place_members (codes "exchange") first n q.frame) ∷ request_members known shown q ∷ response_members r
     ∷ texts (last_members (took q.frame r.frame) None) ∷ codes "}\n" ∷ [])
 
-abbrev pub unanswered_object : (known : List Preparation) → (first : Option ℕ) → (connection : Connection) → (end : Option ConnectionEnd)
+abbrev pub unanswered_object : (known : Known) → ValuesShown → (first : Option ℕ) → (connection : Connection) → (end : Option ConnectionEnd)
     → (request : Message Kept) → List ℕ
-unanswered_object known first n end q =
-    joined (texts (place_members (codes "unanswered") first n q.frame) ∷ request_members known q ∷ texts (last_members None end) ∷ codes "}\n" ∷ [])
+unanswered_object known shown first n end q =
+    joined (texts (place_members (codes "unanswered") first n q.frame) ∷ request_members known shown q ∷ texts (last_members None end) ∷ codes "}\n" ∷ [])
 
 abbrev pub alone_object : (reported : List ℕ) → (first : Option ℕ) → (connection : Connection) → (response : Message Kept) → List ℕ
 alone_object reported first n r =
     joined (texts (place_members reported first n r.frame) ∷ response_members r ∷ texts (last_members None None) ∷ codes "}\n" ∷ [])
 
-abbrev pub paired_object : (known : List Preparation) → (first : Option ℕ) → (connection : Connection) → (end : Option ConnectionEnd) → Paired Kept → List ℕ
-paired_object known first n end (Exchange q r) = exchange_object known first n q r
-paired_object known first n end (Unanswered q) = unanswered_object known first n end q
-paired_object known first n end (Unasked r) = alone_object (codes "unasked") first n r
-paired_object known first n end (Event e) = alone_object (codes "event") first n e
+abbrev pub paired_object : (known : Known) → ValuesShown → (first : Option ℕ) → (connection : Connection) → (end : Option ConnectionEnd)
+    → Paired Kept → List ℕ
+paired_object known shown first n end (Exchange q r) = exchange_object known shown first n q r
+paired_object known shown first n end (Unanswered q) = unanswered_object known shown first n end q
+paired_object known shown first n end (Unasked r) = alone_object (codes "unasked") first n r
+paired_object known shown first n end (Event e) = alone_object (codes "event") first n e
 
 -- ---- a connection that begins with no frames of version 4
 
@@ -163,6 +176,6 @@ unread_members first connection time o =
 abbrev pub unread_object : (first : Option ℕ) → (connection : Connection) → (time : Option ℕ) → Opening → List ℕ
 unread_object first n time o = joined (texts (unread_members first n time o) ∷ codes "}\n" ∷ [])
 
-abbrev pub json_line : (known : List Preparation) → (first : Option ℕ) → (connection : Connection) → Report → List ℕ
-json_line known first n (Messages t end) = paired_object known first n end t
-json_line known first n (Unread time o) = unread_object first n time o
+abbrev pub json_line : (known : Known) → ValuesShown → (first : Option ℕ) → (connection : Connection) → Report → List ℕ
+json_line known shown first n (Messages t end) = paired_object known shown first n end t
+json_line known shown first n (Unread time o) = unread_object first n time o

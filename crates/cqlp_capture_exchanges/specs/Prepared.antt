@@ -1,7 +1,8 @@
--- Statements that were prepared: their texts by their ids.
+-- Statements that were prepared: their texts by their ids, as the capture has them, or as they were given.
 use Rattle.std.specs.Prelude.{ℕ, Bool, true, false, not, ◌&&◌, ◌==◌, nat_lt, List, [], ◌∷◌, ◌++◌, length, drop, Option, Some, None, if◌then◌else◌}
 use Rattle.std.specs.List.{list_any}
 use Rattle.std.specs.Str.{bytes_eq}
+use Rattle.cqlp_statement_file.specs.Texts.{StatementText, Texts, text_of}
 use Rattle.cqlp_note.specs.declared.opcode.Opcode.{Opcode}
 use Rattle.cqlp_note.specs.declared.opcode.Opcode.TheVariants as opcode
 use Rattle.cqlp_observer.specs.Keeping.{Kept}
@@ -12,7 +13,7 @@ use Rattle.cqlp_capture_exchanges.specs.Reports.{Report, Messages, Unread}
 use Rattle.cqlp_capture_exchanges.specs.declared.reply.Reply.{Reply}
 use Rattle.cqlp_capture_exchanges.specs.declared.reply.Reply.TheVariants as reply_as
 use Rattle.cqlp_capture_exchanges.specs.Replies.{reply}
-use Rattle.cqlp_capture_exchanges.specs.Statements.{Said, Id, short_bytes, statement}
+use Rattle.cqlp_capture_exchanges.specs.Statements.{Said, Id, Text, short_bytes, statement}
 
 -- a PREPARE, and the response that gives its statement an id
 pub record Preparation : Type 0 where
@@ -21,6 +22,14 @@ pub record Preparation : Type 0 where
 
 abbrev pub preparation : (request response : Message Kept) → Preparation
 preparation q r = record { request = q; response = r }
+
+-- the statements that were prepared in the capture, and the texts that were given by their ids
+pub record Known : Type 0 where
+  pub prepared : List Preparation
+  pub given : Texts
+
+abbrev pub known_of : List Preparation → Texts → Known
+known_of prepared given = record { prepared = prepared; given = given }
 
 -- ---- the id that a response gives to a statement (section 4.2.5.4)
 
@@ -49,16 +58,38 @@ abbrev pub text_for : List Preparation → List ℕ → Option Said
 text_for [] id = None
 text_for (p ∷ ps) id = if is_of id p then statement p.request.frame.header p.request.kept.front else text_for ps id
 
+abbrev pub said_in : Option StatementText → Option Said
+said_in None = None
+said_in (Some t) = Some (Text t.text t.is_whole)
+
+-- that of a PREPARE, or else the one that was given
+abbrev pub or_given : Option Said → Option StatementText → Option Said
+or_given (Some s) given = Some s
+or_given None given = said_in given
+
+abbrev pub known_text : Known → List ℕ → Option Said
+known_text known id = or_given (text_for known.prepared id) (text_of known.given id)
+
 abbrev pub or_id : Option Said → List ℕ → Option Said
 or_id (Some s) id = Some s
 or_id None id = Some (Id id true)
 
-abbrev pub named_id : List Preparation → List ℕ → Option Said
-named_id known id = or_id (text_for known id) id
+abbrev pub named_id : Known → List ℕ → Option Said
+named_id known id = or_id (known_text known id) id
 
-abbrev pub named : List Preparation → Option Said → Option Said
+abbrev pub named : Known → Option Said → Option Said
 named known (Some (Id id true)) = named_id known id
 named known s = s
+
+-- ---- the first bytes of the response that gave the statement with an id
+
+abbrev pub response_for : List Preparation → List ℕ → List ℕ
+response_for [] id = []
+response_for (p ∷ ps) id = if is_of id p then p.response.kept.front else response_for ps id
+
+abbrev pub prepared_front : List Preparation → Option Said → List ℕ
+prepared_front known (Some (Id id true)) = response_for known id
+prepared_front known s = []
 
 -- ---- A PREPARE whose response gives its statement an id that is not known is one more; of too many the first one goes.
 
@@ -76,11 +107,11 @@ is_news known q r = is_prepare q.frame.header.opcode && not (is_known known (pre
 abbrev pub with_one_more : Preparation → List Preparation → List Preparation
 with_one_more p known = (if nat_lt (length known) 256 then known else drop 1 known) ++ p ∷ []
 
-abbrev pub known_by : Paired Kept → List Preparation → List Preparation
+abbrev pub known_by : Paired Kept → Known → Known
 known_by (Exchange q r) known =
-    if is_news known q r then with_one_more (preparation q r) known else known
+    if is_news known.prepared q r then known_of (with_one_more (preparation q r) known.prepared) known.given else known
 known_by t known = known
 
-abbrev pub known_after : Report → List Preparation → List Preparation
+abbrev pub known_after : Report → Known → Known
 known_after (Messages t end) known = known_by t known
 known_after (Unread time o) known = known

@@ -1,6 +1,6 @@
 -- Times that lie apart, as text.
-use Rattle.std.specs.Prelude.{ℕ, ◌+◌, ◌/◌, ◌%◌, ◌==◌, Bool, true, false, List, [], ◌∷◌, ◌++◌, codes, decimal, Option, Some, None, if◌then◌else◌}
-use Rattle.cqlp_text.specs.CellText.{digits}
+use Rattle.std.specs.Prelude.{ℕ, ◌+◌, ◌/◌, ◌%◌, ◌^◌, ◌==◌, Bool, true, false, List, [], ◌∷◌, ◌++◌, codes, decimal, Option, Some, None, if◌then◌else◌}
+use Rattle.cqlp_text.specs.CellText.{date_text, digits}
 use Rattle.cqlp_capture_exchanges.specs.declared.span.Span.{Span}
 use Rattle.cqlp_capture_exchanges.specs.declared.span.Unit.{Unit}
 use Rattle.cqlp_capture_exchanges.specs.declared.span.Unit.TheVariants as unit
@@ -36,3 +36,20 @@ span_text u s =
 abbrev pub time_text : Unit → Option Span → List ℕ
 time_text u None = codes "-"
 time_text u (Some s) = span_text u s
+
+-- ---- nanoseconds since 1970-01-01 00:00:00 UTC as a date and a time of day (ISO 8601)
+
+-- the time of day in a second
+abbrev pub clock_text : (second : ℕ) → List ℕ
+clock_text s =
+    joined (digits 2 (s / 3_600 % 24) ∷ codes ":" ∷ digits 2 (s / 60 % 60) ∷ codes ":" ∷ digits 2 (s % 60) ∷ [])
+
+abbrev pub date_and_time : ℕ → List ℕ
+date_and_time n =
+    joined (date_text (2 ^ 31 + n / 86_400_000_000_000) ∷ codes "T" ∷ clock_text (n / 1_000_000_000) ∷ codes "."
+    ∷ fraction 6 (n % 1_000_000_000) ∷ codes "Z" ∷ [])
+
+-- where it is known
+abbrev pub utc_text : Option ℕ → List ℕ
+utc_text None = codes "-"
+utc_text (Some n) = date_and_time n

@@ -25,11 +25,13 @@ use cqlp_capture_streams::{
 use cqlp_grammar::SinkFault;
 use cqlp_note::Target;
 use cqlp_observer::Missed;
+use cqlp_statement_file::StatementTexts;
 use cqlp_text::{Pen, TextWriter};
 use std::alloc::Global;
 
 /// Pairs the requests on the connections of a capture with their responses, of nodes that listen on these ports, within these limits. Writes each that the
-/// filter shows to `out` in this form, and what the capture was, or the fault line, to `err`. Answers the exit status and the two outputs.
+/// filter shows to `out` in this form, with these texts of statements where the capture has no PREPARE with the id, and what the capture was, or the fault
+/// line, to `err`. Answers the exit status and the two outputs.
 ///
 /// Lines are written at once, or in blocks; without memory for a block also at once. The last block is written before the last line. After a fault
 /// nothing more is asked of what failed.
@@ -38,6 +40,7 @@ pub fn write_exchanges<R: CaptureInput, O: Target, E: Target>(
     streams: StreamsLimits,
     limits: ExchangeLimits,
     ports: &[u16],
+    given: StatementTexts,
     filter: ExchangeFilter,
     form: ExchangeForm,
     buffering: Buffering,
@@ -49,11 +52,11 @@ pub fn write_exchanges<R: CaptureInput, O: Target, E: Target>(
     ensures task { IsStatusOfTask result.0 }
     ensures exchanges { (xs : List ℕ) → R.left input.old ≡ Some xs → IsSome (O.contents out) → IsSome (E.contents err) →
         (m : ReadsMade) × AreCounted m (read_counts R.Source input.old) (read_counts R.Source input.new)
-        × WritesExchanges buffering streams limits filter form ports.now xs m (R.left input.new) (written O.Target out) (written E.Target err)
+        × WritesExchanges buffering streams limits given filter form ports.now xs m (R.left input.new) (written O.Target out) (written E.Target err)
         result.0 (written O.Target result.1) (written E.Target result.2) }
 {
     let (answer, counts, out) = listen_by(
-        alloc, streams, limits, ports, filter, form, buffering, input, out,
+        alloc, streams, limits, ports, given, filter, form, buffering, input, out,
     );
     let (status, err) = conclude(streams, limits, ports, &answer, &counts, err);
     (status, out, err)
@@ -85,6 +88,7 @@ fn listen_by<R: CaptureInput, O: Target>(
     streams: StreamsLimits,
     limits: ExchangeLimits,
     ports: &[u16],
+    given: StatementTexts,
     filter: ExchangeFilter,
     form: ExchangeForm,
     buffering: Buffering,
@@ -94,16 +98,22 @@ fn listen_by<R: CaptureInput, O: Target>(
     requires { is_in_range streams.connections ≡ true }
     ensures { (xs : List ℕ) → R.left input.old ≡ Some xs → IsSome (O.contents out) →
         (m : ReadsMade) × AreCounted m (read_counts R.Source input.old) (read_counts R.Source input.new)
-        × ListensBy buffering streams limits filter form ports.now xs m result.0 (R.left input.new) (written O.Target out) result.1.sums result.1.missed
+        × ListensBy buffering streams limits given filter form ports.now xs m result.0 (R.left input.new) (written O.Target out) result.1.sums result.1.missed
         (written O.Target result.2) }
 {
     match buffering {
-        Buffering::Line => listen(alloc, streams, limits, ports, filter, form, input, out),
+        Buffering::Line => listen(
+            alloc, streams, limits, ports, given, filter, form, input, out,
+        ),
         Buffering::Block => match BlockWriter::new(alloc, out) {
             Ok(blocks) => {
-                listen_in_blocks(alloc, streams, limits, ports, filter, form, input, blocks)
+                listen_in_blocks(
+                    alloc, streams, limits, ports, given, filter, form, input, blocks,
+                )
             }
-            Err(out) => listen(alloc, streams, limits, ports, filter, form, input, out),
+            Err(out) => listen(
+                alloc, streams, limits, ports, given, filter, form, input, out,
+            ),
         },
     }
 }
@@ -114,6 +124,7 @@ fn listen_in_blocks<R: CaptureInput, O: Target>(
     streams: StreamsLimits,
     limits: ExchangeLimits,
     ports: &[u16],
+    given: StatementTexts,
     filter: ExchangeFilter,
     form: ExchangeForm,
     input: &mut R,
@@ -123,10 +134,12 @@ fn listen_in_blocks<R: CaptureInput, O: Target>(
     requires none { blocks.waiting ≡ [] }
     ensures { (xs : List ℕ) → R.left input.old ≡ Some xs → IsSome blocks.given →
         (m : ReadsMade) × AreCounted m (read_counts R.Source input.old) (read_counts R.Source input.new)
-        × ListensBy Block streams limits filter form ports.now xs m result.0 (R.left input.new) (output blocks.given blocks.failures)
+        × ListensBy Block streams limits given filter form ports.now xs m result.0 (R.left input.new) (output blocks.given blocks.failures)
         result.1.sums result.1.missed (written O.Target result.2) }
 {
-    let (read, counts, blocks) = listen(alloc, streams, limits, ports, filter, form, input, blocks);
+    let (read, counts, blocks) = listen(
+        alloc, streams, limits, ports, given, filter, form, input, blocks,
+    );
     let (answer, out) = finish_blocks(read, blocks);
     (answer, counts, out)
 }
@@ -137,6 +150,7 @@ fn listen<R: CaptureInput, O: Target>(
     streams: StreamsLimits,
     limits: ExchangeLimits,
     ports: &[u16],
+    given: StatementTexts,
     filter: ExchangeFilter,
     form: ExchangeForm,
     input: &mut R,
@@ -145,10 +159,10 @@ fn listen<R: CaptureInput, O: Target>(
     requires { is_in_range streams.connections ≡ true }
     ensures { (xs : List ℕ) → R.left input.old ≡ Some xs → IsSome (O.contents out) →
         (m : ReadsMade) × AreCounted m (read_counts R.Source input.old) (read_counts R.Source input.new)
-        × Listens streams limits filter form ports.now xs m result.0 (R.left input.new) (written O.Target out) result.1.sums result.1.missed
+        × Listens streams limits given filter form ports.now xs m result.0 (R.left input.new) (written O.Target out) result.1.sums result.1.missed
         (written O.Target result.2) }
 {
-    let mut exchanges = match Exchanges::new(alloc, limits, filter, form, out) {
+    let mut exchanges = match Exchanges::new(alloc, limits, given, filter, form, out) {
         Ok(exchanges) => exchanges,
         Err(out) => return (Err(StreamsFault::NoMemory), Counts::none(), out),
     };

@@ -1,15 +1,16 @@
 //! What listens to the connections of a capture.
 
-ghost use Rattle.std.specs.Prelude.{◌≡◌, ◌≤◌, [], IfErr, IfOk, IsSome, vec_capacity, vec_len};
+ghost use Rattle.std.specs.Prelude.{◌≡◌, ◌≤◌, [], IfErr, IfOk, IsSome, vec_len};
 ghost use Rattle.cqlp_text.specs.Outputs.{written};
 ghost use Rattle.cqlp_capture_summary.specs.Summaries.{new_summary};
 ghost use Rattle.cqlp_capture_exchanges.specs.Forms.{statements_in};
+ghost use Rattle.cqlp_capture_exchanges.specs.Prepared.{known_of};
 ghost use Rattle.cqlp_capture_exchanges.specs.Tables.{new_table};
 
 use crate::filter::ExchangeFilter;
 use crate::form::ExchangeForm;
 use crate::pool::ExchangeLimits;
-use crate::prepared::{MOST, Preparation};
+use crate::prepared::Known;
 use crate::reporter::Reporter;
 use crate::sums::ExchangeSums;
 use crate::table::Table;
@@ -18,6 +19,7 @@ use cqlp_capture_summary::Summary;
 use cqlp_grammar::SinkFault;
 use cqlp_note::Target;
 use cqlp_observer::Missed;
+use cqlp_statement_file::StatementTexts;
 use cqlp_tcp_connections::{ConnectionTotals, Delivery};
 use std::alloc::{AllocError, Allocator, Global};
 use std::marker::Model;
@@ -48,19 +50,20 @@ impl<O: Target, A: Allocator + Clone> Exchanges<O, A> {
     ghost use Rattle.cqlp_capture_exchanges.specs.Accounts.{Finishes};
     ghost use Rattle.cqlp_capture_exchanges.specs.Listening.{Hears, new_listening, with_connection_event};
 
-    /// Nothing is watched, and exchanges go to this output in this form. Takes memory for a line, for 256 statements and for a summary; where it is not
-    /// granted, the output is given back.
+    /// Nothing is watched, these texts of statements are known, and exchanges go to this output in this form. Takes memory for a line, for 256 statements
+    /// and for a summary; where it is not granted, the output is given back.
     pub fn new(
         alloc: A,
         limits: ExchangeLimits,
+        given: StatementTexts,
         filter: ExchangeFilter,
         form: ExchangeForm,
         out: O,
     ) -> Result<Self, O>
-        ensures ok { IfOk result (λ e. e ≡ new_listening limits filter form (written O.Target out)) }
+        ensures ok { IfOk result (λ e. e ≡ new_listening limits given filter form (written O.Target out)) }
         ensures err { IfErr result (λ o. written O.Target o ≡ written O.Target out) }
     {
-        match take_memory(alloc, limits, form) {
+        match take_memory(alloc, limits, given, form) {
             Ok(
                 Room {
                     table,
@@ -154,23 +157,24 @@ impl<O: Target, A: Allocator + Clone> Exchanges<O, A> {
 struct Room<A: Allocator> {
     table: Table<A>,
     buffer: Vec<u8, A>,
-    known: Vec<Preparation<A>, A>,
+    known: Known<A>,
     summary: Summary<A>,
 }
 
 fn take_memory<A: Allocator + Clone>(
     alloc: A,
     limits: ExchangeLimits,
+    given: StatementTexts,
     form: ExchangeForm,
 ) -> Result<Room<A>, AllocError>
     ensures table { IfOk result (λ p. p.table ≡ new_table limits) }
     ensures buffer { IfOk result (λ p. 128 ≤ vec_len p.buffer) }
-    ensures known { IfOk result (λ p. (p.known.items ≡ []) × (vec_capacity p.known ≡ 256)) }
+    ensures known { IfOk result (λ p. p.known ≡ known_of [] given) }
     ensures summary { IfOk result (λ p. p.summary ≡ new_summary (statements_in form)) }
 {
     let table = Table::new(alloc.clone()?, limits)?;
     let buffer = vec![in alloc.clone()?; 0; ROOM]?;
-    let known = Vec::with_capacity(alloc.clone()?, MOST)?;
+    let known = Known::new(alloc.clone()?, given)?;
     let summary = Summary::new(alloc, form.statements())?;
     Ok(Room {
         table,

@@ -6,11 +6,13 @@ ghost use Rattle.cqlp_capture_exchanges.specs.Statements.{said_of};
 ghost use Rattle.cqlp_capture_exchanges.specs.Filters.{asks, begun, begun_in, has_failed, has_opcode, is_asking, is_at};
 ghost use Rattle.cqlp_capture_exchanges.specs.Filters.{is_at_least, is_at_most, is_between, is_end, is_error, is_failure, is_host, is_of};
 ghost use Rattle.cqlp_capture_exchanges.specs.Filters.{is_saying, is_since, is_slow, is_trouble, is_until, is_within, paired_says};
-ghost use Rattle.cqlp_capture_exchanges.specs.Filters.{reported_asking, reported_saying, reported_slow, request_says, says, took_at_least};
+ghost use Rattle.cqlp_capture_exchanges.specs.Filters.{has_kind, is_error_with, is_replied, is_result_of, replied_by, reported_asking, reported_replied};
+ghost use Rattle.cqlp_capture_exchanges.specs.Filters.{reported_saying, reported_slow, request_says, says, took_at_least};
 
 use crate::connection::Connection;
 use crate::part::{StatementPart, is_part};
-use crate::prepared::{Preparation, named, same_bytes};
+use crate::prepared::{Known, named, same_bytes};
+use crate::reply::{Reply, reply_of};
 use crate::report::Report;
 use crate::span::{Span, is_short, time_between, took};
 use crate::statement::{Statement, statement_of};
@@ -46,6 +48,17 @@ pub enum Moment {
     At(u64),
 }
 
+/// What a response may be.
+#[derive(Clone, Copy)]
+pub enum ReplyKind {
+    /// A RESULT of this kind. Section 4.2.5 of `native_protocol_v4.spec`.
+    Result(u32),
+    /// An ERROR with this code. Section 9 of `native_protocol_v4.spec`.
+    Error(u32),
+    /// Any response with this opcode.
+    Response(Opcode),
+}
+
 /// Which of the exchanges are shown: those that all of these ask for.
 #[derive(Clone, Copy)]
 pub struct ExchangeFilter {
@@ -55,6 +68,8 @@ pub struct ExchangeFilter {
     pub errors: bool,
     /// Only requests with this opcode, with their replies.
     pub opcode: Option<Opcode>,
+    /// Only requests whose reply is of this kind, and responses alone of this kind.
+    pub kind: Option<ReplyKind>,
     /// Only what is reported of connections with such a client.
     pub client: Option<EndFilter>,
     /// Only what is reported of connections with such a node.
@@ -77,6 +92,7 @@ impl ExchangeFilter {
         slow: None,
         errors: false,
         opcode: None,
+        kind: None,
         client: None,
         node: None,
         since: None,
@@ -88,7 +104,7 @@ impl ExchangeFilter {
     /// Whether what is reported of this connection is shown, where these statements are known and the capture's first packet came at this time.
     pub(crate) fn shows<A: Allocator>(
         &self,
-        known: &[Preparation<A>],
+        known: &Known<A>,
         first: Option<u64>,
         connection: &Connection,
         report: &Report<A>,
@@ -100,6 +116,7 @@ impl ExchangeFilter {
             && is_slow(self.slow, report)
             && (!self.errors || is_trouble(report))
             && is_asking(self.opcode, report)
+            && is_replied(self.kind, report)
             && self.is_within(first, begun(report))
             && is_saying(&self.statement, known, report)
     }
@@ -269,6 +286,65 @@ fn has_opcode(opcode: Opcode, frame: &Frame) -> bool
     frame.header.opcode.number() == opcode.number()
 }
 
+/// Whether the reply is of the kind that is asked for.
+fn is_replied<A: Allocator>(asked: Option<ReplyKind>, report: &Report<A>) -> bool
+    ensures { result ≡ is_replied asked (report_of report.now) }
+{
+    match asked {
+        Some(kind) => reported_replied(kind, report),
+        None => true,
+    }
+}
+
+fn reported_replied<A: Allocator>(kind: ReplyKind, report: &Report<A>) -> bool
+    ensures { result ≡ reported_replied kind (report_of report.now) }
+{
+    match report {
+        Report::Messages { paired, .. } => replied_by(kind, paired),
+        Report::Unread { .. } => false,
+    }
+}
+
+fn replied_by<A: Allocator>(kind: ReplyKind, exchange: &Paired<Kept<A>>) -> bool
+    ensures { result ≡ replied_by kind exchange.now }
+{
+    match exchange {
+        Paired::Exchange { response, .. } => has_kind(kind, response),
+        Paired::Unasked { response } => has_kind(kind, response),
+        Paired::Event { event } => has_kind(kind, event),
+        Paired::Unanswered { .. } => false,
+    }
+}
+
+fn has_kind<A: Allocator>(kind: ReplyKind, response: &Message<Kept<A>>) -> bool
+    ensures { result ≡ has_kind kind response.now }
+{
+    let reply = reply_of(&response.frame.header, response.kept.front());
+    match kind {
+        ReplyKind::Result(number) => is_result_of(number, reply),
+        ReplyKind::Error(code) => is_error_with(code, reply),
+        ReplyKind::Response(opcode) => has_opcode(opcode, &response.frame),
+    }
+}
+
+fn is_result_of(number: u32, reply: Reply) -> bool
+    ensures { result ≡ is_result_of number reply }
+{
+    match reply {
+        Reply::Result(kind) => kind == number,
+        Reply::Error(_) | Reply::Other(_) => false,
+    }
+}
+
+fn is_error_with(code: u32, reply: Reply) -> bool
+    ensures { result ≡ is_error_with code reply }
+{
+    match reply {
+        Reply::Error(own) => own == code,
+        Reply::Result(_) | Reply::Other(_) => false,
+    }
+}
+
 /// When the first byte of what is reported came.
 fn begun<A: Allocator>(report: &Report<A>) -> Option<u64>
     ensures { result ≡ begun (report_of report.now) }
@@ -322,7 +398,7 @@ fn is_at_most(most: u64, time: Option<Span>) -> bool
 /// Whether the text of a request's statement has the part that is asked for.
 fn is_saying<A: Allocator>(
     asked: &Option<StatementPart>,
-    known: &[Preparation<A>],
+    known: &Known<A>,
     report: &Report<A>,
 ) -> bool
     ensures { result ≡ is_saying asked.now known.now (report_of report.now) }
@@ -333,7 +409,7 @@ fn is_saying<A: Allocator>(
     }
 }
 
-fn reported_saying<A: Allocator>(known: &[Preparation<A>], part: &[u8], report: &Report<A>) -> bool
+fn reported_saying<A: Allocator>(known: &Known<A>, part: &[u8], report: &Report<A>) -> bool
     ensures { result ≡ reported_saying known.now part.now (report_of report.now) }
 {
     match report {
@@ -342,11 +418,7 @@ fn reported_saying<A: Allocator>(known: &[Preparation<A>], part: &[u8], report: 
     }
 }
 
-fn paired_says<A: Allocator>(
-    known: &[Preparation<A>],
-    part: &[u8],
-    exchange: &Paired<Kept<A>>,
-) -> bool
+fn paired_says<A: Allocator>(known: &Known<A>, part: &[u8], exchange: &Paired<Kept<A>>) -> bool
     ensures { result ≡ paired_says known.now part.now exchange.now }
 {
     match exchange {
@@ -356,11 +428,7 @@ fn paired_says<A: Allocator>(
     }
 }
 
-fn request_says<A: Allocator>(
-    known: &[Preparation<A>],
-    part: &[u8],
-    request: &Message<Kept<A>>,
-) -> bool
+fn request_says<A: Allocator>(known: &Known<A>, part: &[u8], request: &Message<Kept<A>>) -> bool
     ensures { result ≡ request_says known.now part.now request.now }
 {
     let statement = statement_of(&request.frame.header, request.kept.front());

@@ -18,7 +18,7 @@ use cqlp_text::{Buffered, TextWriter};
 use std::alloc::Allocator;
 
 /// What came of the request of a report, if it has one.
-fn outcome_in<B: Allocator>(report: &Report<B>) -> Option<Outcome>
+pub(crate) fn outcome_in<B: Allocator>(report: &Report<B>) -> Option<Outcome>
     ensures { result ≡ outcome_in (report_of report.now) }
 {
     match report {

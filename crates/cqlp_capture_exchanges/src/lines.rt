@@ -4,94 +4,114 @@ ghost use Rattle.std.specs.Prelude.{◌≡◌, [], None, Some};
 ghost use Rattle.cqlp_capture_exchanges.specs.Reports.{report_of};
 ghost use Rattle.std.specs.Fmt.{signed_decimal};
 ghost use Rattle.cqlp_text.specs.Written.{Writes};
-ghost use Rattle.cqlp_capture_exchanges.specs.Lines.{compressed_mark, consistency_text, count_text, counts_text, cut_mark, end_text, frame_text};
-ghost use Rattle.cqlp_capture_exchanges.specs.Lines.{given_up_mark, kind_text, line, more, name_or_number, opening_text, page_text, paired_line, place_text};
-ghost use Rattle.cqlp_capture_exchanges.specs.Lines.{short_name, tracing_text, unread_line, warnings_text};
+ghost use Rattle.cqlp_capture_exchanges.specs.Lines.{begun_text, both_ends, ends_text};
+ghost use Rattle.cqlp_capture_exchanges.specs.Lines.{compressed_mark, count_text, counts_text, cut_mark, end_text, error_text, frame_text};
+ghost use Rattle.cqlp_capture_exchanges.specs.Lines.{given_up_mark, kind_text, line, more, name_or_number, next_mark, opening_text, page_counts_text};
+ghost use Rattle.cqlp_capture_exchanges.specs.Lines.{page_text, pages_mark, paging_text, paired_line, place_text, tracing_text, unread_line, warnings_text};
 ghost use Rattle.cqlp_capture_exchanges.specs.Lines.{reply_text, request_text, response_text, said_text, statement_text, took_text};
+ghost use Rattle.cqlp_capture_exchanges.specs.Prepared.{known_of};
 ghost use Rattle.cqlp_capture_exchanges.specs.Statements.{said_of};
 ghost use Rattle.std.specs.Prelude.{option_map};
 ghost use Rattle.cqlp_observer.specs.declared.opening.Opening.TheVariants.{OtherVersion};
 ghost use Rattle.cqlp_observer.specs.declared.paired.Paired.TheVariants.{Exchange, Unanswered, Unasked, Event};
+ghost use Rattle.cqlp_capture_exchanges.specs.declared.reply.Reply.TheVariants as reply_as;
 
+use crate::bound::put_values_if;
+use crate::connection::Connection;
+use crate::details_line::put_numbers;
+use crate::end::put_end;
+use crate::error_details::error_details;
+use crate::form::{LineStyle, ValuesShown};
+use crate::level::put_consistency;
 use crate::member::{Member, Value, put_members};
-use crate::prepared::{Preparation, named};
-use crate::reply::{Reply, consistency_name, error_name, kind_name, message_of, reply_of};
+use crate::prepared::{Known, named};
+use crate::reply::{Reply, error_name, kind_name, message_of, reply_of};
 use crate::report::{ConnectionEnd, Report};
 use crate::span::{Unit, is_whole, put_time, time_between, took};
 use crate::statement::{Statement, has, statement_of, statements_of};
+use crate::utc::put_utc;
 use cqlp_capture_summary::put_shown_text;
 use cqlp_grammar::SinkFault;
 use cqlp_note::{Header, Target};
-use cqlp_observer::{Frame, Kept, Message, Opening, Paired};
+use cqlp_observer::{Facts, Frame, Kept, Message, Opening, Paired};
+use cqlp_tcp_connections::Ends;
 use cqlp_text::{Buffered, Pen, TextWriter, opcode_name};
 use std::alloc::Allocator;
 
-/// Takes the line of a report of the connection with this number, in a capture whose first packet came at this time, and passes it on.
+/// Takes the line of a report of this connection in this style, in a capture whose first packet came at this time, and passes it on.
 pub(crate) fn put_line<W: Target, A: Allocator, B: Allocator>(
     writer: &mut TextWriter<Buffered<W, A>>,
-    known: &[Preparation<B>],
+    known: &Known<B>,
+    style: LineStyle,
     first: Option<u64>,
-    number: u64,
+    connection: &Connection,
     report: &Report<B>,
 ) -> Result<(), SinkFault>
-    ensures line { Writes writer.old (line known.now first number (report_of report.now)) result writer.new }
+    ensures line { Writes writer.old (line known.now style first connection.now (report_of report.now)) result writer.new }
     ensures passed { writer.new.waiting ≡ [] }
 {
-    put_report(writer, known, first, number, report)?;
+    put_report(writer, known, style, first, connection, report)?;
     writer.pass_on()
 }
 
 /// Takes the line of a report.
 fn put_report<P: Pen, A: Allocator>(
     writer: &mut TextWriter<P>,
-    known: &[Preparation<A>],
+    known: &Known<A>,
+    style: LineStyle,
     first: Option<u64>,
-    number: u64,
+    connection: &Connection,
     report: &Report<A>,
 ) -> Result<(), SinkFault>
-    ensures { Writes writer.old (line known.now first number (report_of report.now)) result writer.new }
+    ensures { Writes writer.old (line known.now style first connection.now (report_of report.now)) result writer.new }
 {
     match report {
-        Report::Messages { paired, end } => put_paired(writer, known, first, number, *end, paired),
-        Report::Unread { time, opening } => put_unread(writer, first, number, *time, *opening),
+        Report::Messages { paired, end } => put_paired(
+            writer, known, style, first, connection, *end, paired,
+        ),
+        Report::Unread { time, opening } => put_unread(
+            writer, style, first, connection, *time, *opening,
+        ),
     }
 }
 
 /// Takes the line of messages, whose connection ended so where that is why they are reported.
 fn put_paired<P: Pen, A: Allocator>(
     writer: &mut TextWriter<P>,
-    known: &[Preparation<A>],
+    known: &Known<A>,
+    style: LineStyle,
     first: Option<u64>,
-    number: u64,
+    connection: &Connection,
     end: Option<ConnectionEnd>,
     exchange: &Paired<Kept<A>>,
 ) -> Result<(), SinkFault>
-    ensures { Writes writer.old (paired_line known.now first number end exchange.now) result writer.new }
+    ensures { Writes writer.old (paired_line known.now style first connection.now end exchange.now) result writer.new }
 {
     match exchange {
         Paired::Exchange { request, response } => {
-            put_exchange(writer, known, first, number, request, response)
+            put_exchange(writer, known, style, first, connection, request, response)
         }
         Paired::Unanswered { request } => {
-            put_unanswered(writer, known, first, number, end, request)
+            put_unanswered(writer, known, style, first, connection, end, request)
         }
-        Paired::Unasked { response } => put_unasked(writer, first, number, response),
-        Paired::Event { event } => put_event(writer, first, number, event),
+        Paired::Unasked { response } => put_unasked(writer, style, first, connection, response),
+        Paired::Event { event } => put_event(writer, style, first, connection, event),
     }
 }
 
 fn put_exchange<P: Pen, A: Allocator>(
     writer: &mut TextWriter<P>,
-    known: &[Preparation<A>],
+    known: &Known<A>,
+    style: LineStyle,
     first: Option<u64>,
-    number: u64,
+    connection: &Connection,
     request: &Message<Kept<A>>,
     response: &Message<Kept<A>>,
 ) -> Result<(), SinkFault>
-    ensures { Writes writer.old (paired_line known.now first number None (Exchange request.now response.now)) result writer.new }
+    ensures { Writes writer.old (paired_line known.now style first connection.now None (Exchange request.now response.now)) result writer.new }
 {
-    put_place(writer, first, number, &request.frame)?;
-    put_request(writer, known, request)?;
+    put_place(writer, style, first, connection, &request.frame)?;
+    put_request(writer, known, style.values, request)?;
     writer.put(b" -> ")?;
     put_response(writer, response)?;
     put_took(writer, &request.frame, &response.frame)
@@ -99,16 +119,17 @@ fn put_exchange<P: Pen, A: Allocator>(
 
 fn put_unanswered<P: Pen, A: Allocator>(
     writer: &mut TextWriter<P>,
-    known: &[Preparation<A>],
+    known: &Known<A>,
+    style: LineStyle,
     first: Option<u64>,
-    number: u64,
+    connection: &Connection,
     end: Option<ConnectionEnd>,
     request: &Message<Kept<A>>,
 ) -> Result<(), SinkFault>
-    ensures { Writes writer.old (paired_line known.now first number end (Unanswered request.now)) result writer.new }
+    ensures { Writes writer.old (paired_line known.now style first connection.now end (Unanswered request.now)) result writer.new }
 {
-    put_place(writer, first, number, &request.frame)?;
-    put_request(writer, known, request)?;
+    put_place(writer, style, first, connection, &request.frame)?;
+    put_request(writer, known, style.values, request)?;
     writer.put(b" -> nothing")?;
     writer.put_str(end_text(end))?;
     writer.put(b"\n")
@@ -128,13 +149,14 @@ fn end_text(end: Option<ConnectionEnd>) -> &'static str
 
 fn put_unasked<P: Pen, A: Allocator>(
     writer: &mut TextWriter<P>,
+    style: LineStyle,
     first: Option<u64>,
-    number: u64,
+    connection: &Connection,
     response: &Message<Kept<A>>,
 ) -> Result<(), SinkFault>
-    ensures { Writes writer.old (paired_line [] first number None (Unasked response.now)) result writer.new }
+    ensures { Writes writer.old (paired_line (known_of [] []) style first connection.now None (Unasked response.now)) result writer.new }
 {
-    put_place(writer, first, number, &response.frame)?;
+    put_place(writer, style, first, connection, &response.frame)?;
     writer.put(b"nothing -> ")?;
     put_response(writer, response)?;
     writer.put(b"\n")
@@ -142,13 +164,14 @@ fn put_unasked<P: Pen, A: Allocator>(
 
 fn put_event<P: Pen, A: Allocator>(
     writer: &mut TextWriter<P>,
+    style: LineStyle,
     first: Option<u64>,
-    number: u64,
+    connection: &Connection,
     event: &Message<Kept<A>>,
 ) -> Result<(), SinkFault>
-    ensures { Writes writer.old (paired_line [] first number None (Event event.now)) result writer.new }
+    ensures { Writes writer.old (paired_line (known_of [] []) style first connection.now None (Event event.now)) result writer.new }
 {
-    put_place(writer, first, number, &event.frame)?;
+    put_place(writer, style, first, connection, &event.frame)?;
     put_response(writer, event)?;
     writer.put(b"\n")
 }
@@ -156,16 +179,18 @@ fn put_event<P: Pen, A: Allocator>(
 /// Takes the line of a connection that begins with no frames of version 4.
 fn put_unread<P: Pen>(
     writer: &mut TextWriter<P>,
+    style: LineStyle,
     first: Option<u64>,
-    number: u64,
+    connection: &Connection,
     time: Option<u64>,
     opening: Opening,
 ) -> Result<(), SinkFault>
-    ensures { Writes writer.old (unread_line first number time opening) result writer.new }
+    ensures { Writes writer.old (unread_line style first connection.now time opening) result writer.new }
 {
-    put_time(writer, Unit::Second, time_between(first, time))?;
+    put_begun(writer, style.is_utc, first, time)?;
     writer.put(b" ")?;
-    writer.put_number(number)?;
+    writer.put_number(connection.number)?;
+    put_ends(writer, style.has_ends, &connection.ends)?;
     writer.put(b" unread ")?;
     put_opening(writer, opening)?;
     writer.put(b"\n")
@@ -194,19 +219,61 @@ fn put_other_version<P: Pen>(writer: &mut TextWriter<P>, version: u8) -> Result<
 /// Takes when a frame began, and where.
 fn put_place<P: Pen>(
     writer: &mut TextWriter<P>,
+    style: LineStyle,
     first: Option<u64>,
-    number: u64,
+    connection: &Connection,
     frame: &Frame,
 ) -> Result<(), SinkFault>
-    ensures { Writes writer.old (place_text first number frame.now) result writer.new }
+    ensures { Writes writer.old (place_text style first connection.now frame.now) result writer.new }
 {
-    let since = time_between(first, frame.begun);
-    put_time(writer, Unit::Second, since)?;
+    put_begun(writer, style.is_utc, first, frame.begun)?;
     writer.put(b" ")?;
-    writer.put_number(number)?;
+    writer.put_number(connection.number)?;
     writer.put(b":")?;
     put_stream(writer, &frame.header)?;
+    put_ends(writer, style.has_ends, &connection.ends)?;
     writer.put(b" ")
+}
+
+/// Takes when something began, in a capture whose first packet came at this time.
+fn put_begun<P: Pen>(
+    writer: &mut TextWriter<P>,
+    is_utc: bool,
+    first: Option<u64>,
+    time: Option<u64>,
+) -> Result<(), SinkFault>
+    ensures { Writes writer.old (begun_text is_utc first time) result writer.new }
+{
+    if is_utc {
+        put_utc(writer, time)
+    } else {
+        put_time(writer, Unit::Second, time_between(first, time))
+    }
+}
+
+/// Takes the ends of a connection, where lines have them.
+#[tactic(auto, using(crate::proofs::Texts::nothing_taken))]
+fn put_ends<P: Pen>(
+    writer: &mut TextWriter<P>,
+    has_ends: bool,
+    ends: &Ends,
+) -> Result<(), SinkFault>
+    ensures { Writes writer.old (ends_text has_ends ends.now) result writer.new }
+{
+    if has_ends {
+        put_both_ends(writer, ends)
+    } else {
+        Ok(())
+    }
+}
+
+fn put_both_ends<P: Pen>(writer: &mut TextWriter<P>, ends: &Ends) -> Result<(), SinkFault>
+    ensures { Writes writer.old (both_ends ends.now) result writer.new }
+{
+    writer.put(b" ")?;
+    put_end(writer, ends.client)?;
+    writer.put(b" ")?;
+    put_end(writer, ends.node)
 }
 
 /// Takes a stream id.
@@ -232,10 +299,11 @@ fn put_took<P: Pen>(
 
 fn put_request<P: Pen, A: Allocator>(
     writer: &mut TextWriter<P>,
-    known: &[Preparation<A>],
+    known: &Known<A>,
+    shown: ValuesShown,
     request: &Message<Kept<A>>,
 ) -> Result<(), SinkFault>
-    ensures { Writes writer.old (request_text known.now request.now) result writer.new }
+    ensures { Writes writer.old (request_text known.now shown request.now) result writer.new }
 {
     let front = request.kept.front();
     let count = statements_of(&request.frame.header, front);
@@ -246,7 +314,8 @@ fn put_request<P: Pen, A: Allocator>(
     put_count(writer, count)?;
     put_statement(writer, &statement)?;
     writer.put_str(given_up_mark(request.kept.is_text_dropped()))?;
-    put_page_size(writer, facts.page_size)?;
+    put_values_if(writer, known, shown, request)?;
+    put_paging(writer, &facts)?;
     put_frame(writer, &request.frame)
 }
 
@@ -257,46 +326,14 @@ fn put_response<P: Pen, A: Allocator>(
     ensures { Writes writer.old (response_text response.now) result writer.new }
 {
     let reply = reply_of(&response.frame.header, response.kept.front());
-    let message = message_of(reply, response.kept.front());
     let facts = response.kept.facts();
     put_reply(writer, reply)?;
-    put_counts(writer, facts.rows, facts.columns)?;
-    put_statement(writer, &message)?;
+    put_page_counts(writer, &facts)?;
+    put_message(writer, reply, response.kept.front())?;
     writer.put_str(given_up_mark(response.kept.is_text_dropped()))?;
     put_warnings(writer, facts.warnings)?;
     put_tracing(writer, facts.trace_id)?;
     put_frame(writer, &response.frame)
-}
-
-/// Takes a consistency level, after a space.
-fn put_consistency<P: Pen>(writer: &mut TextWriter<P>, level: Option<u16>) -> Result<(), SinkFault>
-    ensures { Writes writer.old (consistency_text level) result writer.new }
-{
-    match level {
-        Some(level) => put_level(writer, level),
-        None => writer.put(b""),
-    }
-}
-
-fn put_level<P: Pen>(writer: &mut TextWriter<P>, level: u16) -> Result<(), SinkFault>
-    ensures { Writes writer.old (consistency_text (Some level)) result writer.new }
-{
-    writer.put(b" ")?;
-    put_short_name(writer, consistency_name(level), level)
-}
-
-/// Takes a name, or where there is none the number's two bytes.
-fn put_short_name<P: Pen>(
-    writer: &mut TextWriter<P>,
-    name: Option<&'static str>,
-    number: u16,
-) -> Result<(), SinkFault>
-    ensures { Writes writer.old (short_name (option_map (λ s. s.now) name.entry) number) result writer.new }
-{
-    match name {
-        Some(name) => writer.put_str(name),
-        None => writer.put_hex_text(&number.to_be_bytes()),
-    }
 }
 
 /// Takes how many statements a BATCH has.
@@ -316,6 +353,24 @@ fn put_known_count<P: Pen>(writer: &mut TextWriter<P>, count: u16) -> Result<(),
     writer.put_number(u64::from(count))
 }
 
+/// Takes how many rows a page is to have, and whether it is one after the first.
+fn put_paging<P: Pen>(writer: &mut TextWriter<P>, facts: &Facts) -> Result<(), SinkFault>
+    ensures { Writes writer.old (paging_text facts.now) result writer.new }
+{
+    put_page_size(writer, facts.page_size)?;
+    writer.put_str(next_mark(facts.has_paging_state))
+}
+
+fn next_mark(has_paging_state: Option<bool>) -> &'static str
+    ensures { result.now ≡ next_mark has_paging_state }
+{
+    match has_paging_state {
+        Some(true) => " next",
+        Some(false) => "",
+        None => "",
+    }
+}
+
 /// Takes how many rows a page is to have.
 fn put_page_size<P: Pen>(writer: &mut TextWriter<P>, size: Option<i32>) -> Result<(), SinkFault>
     ensures { Writes writer.old (page_text size) result writer.new }
@@ -323,6 +378,24 @@ fn put_page_size<P: Pen>(writer: &mut TextWriter<P>, size: Option<i32>) -> Resul
     match size {
         Some(size) => put_members(writer, &[Member(" page ", Value::Signed(size))]),
         None => writer.put(b""),
+    }
+}
+
+/// Takes how many rows and columns a result has, and whether more pages follow.
+fn put_page_counts<P: Pen>(writer: &mut TextWriter<P>, facts: &Facts) -> Result<(), SinkFault>
+    ensures { Writes writer.old (page_counts_text facts.now) result writer.new }
+{
+    put_counts(writer, facts.rows, facts.columns)?;
+    writer.put_str(pages_mark(facts.has_more_pages))
+}
+
+fn pages_mark(has_more_pages: Option<bool>) -> &'static str
+    ensures { result.now ≡ pages_mark has_more_pages }
+{
+    match has_more_pages {
+        Some(true) => " more",
+        Some(false) => "",
+        None => "",
     }
 }
 
@@ -344,6 +417,35 @@ fn put_counts<P: Pen>(
         ),
         _ => writer.put(b""),
     }
+}
+
+/// Takes the message of an ERROR, and how many nodes it counts.
+fn put_message<P: Pen>(
+    writer: &mut TextWriter<P>,
+    reply: Reply,
+    front: &[u8],
+) -> Result<(), SinkFault>
+    ensures { Writes writer.old (error_text reply front.now) result writer.new }
+{
+    match reply {
+        Reply::Error(code) => put_error_message(writer, code, front),
+        Reply::Result(_) => writer.put(b""),
+        Reply::Other(_) => writer.put(b""),
+    }
+}
+
+fn put_error_message<P: Pen>(
+    writer: &mut TextWriter<P>,
+    code: u32,
+    front: &[u8],
+) -> Result<(), SinkFault>
+    ensures { Writes writer.old (error_text (reply_as.Error code) front.now) result writer.new }
+{
+    let reply = Reply::Error(code);
+    let message = message_of(reply, front);
+    let details = error_details(reply, front);
+    put_statement(writer, &message)?;
+    put_numbers(writer, &details)
 }
 
 /// Takes how many warnings a response has.
@@ -471,8 +573,6 @@ fn put_reply<P: Pen>(writer: &mut TextWriter<P>, reply: Reply) -> Result<(), Sin
         Reply::Other(opcode) => writer.put_str(opcode_name(opcode)),
     }
 }
-
-ghost use Rattle.cqlp_capture_exchanges.specs.declared.reply.Reply.TheVariants as reply_as;
 
 fn put_error<P: Pen>(writer: &mut TextWriter<P>, code: u32) -> Result<(), SinkFault>
     ensures { Writes writer.old (reply_text (reply_as.Error code)) result writer.new }

@@ -4,8 +4,8 @@ ghost use Rattle.std.specs.Prelude.{◌≡◌, option_map};
 ghost use Rattle.std.specs.List.{flat_map};
 ghost use Rattle.cqlp_text.specs.CellText.{boolean_text};
 ghost use Rattle.cqlp_text.specs.Written.{Writes};
-ghost use Rattle.cqlp_capture_exchanges.specs.Members.{consistency_or_null, end_value, member_text, name_or_code, number as number_text};
-ghost use Rattle.cqlp_capture_exchanges.specs.Members.{number_or_null, quote, seconds, seconds_or_null};
+ghost use Rattle.cqlp_capture_exchanges.specs.Members.{consistency_or_null, end_value, flag_or_null, hex_or_null, member_text, name_or_code};
+ghost use Rattle.cqlp_capture_exchanges.specs.Members.{number as number_text, number_or_null, quote, seconds, seconds_or_null, string_or_null};
 ghost use Rattle.cqlp_capture_exchanges.specs.Members.{signed_or_null, utc as utc_text, utc_or_null, uuid as uuid_text, uuid_or_null, value_text};
 
 use crate::end::put_end;
@@ -94,6 +94,36 @@ pub(crate) fn uuid_or_null(id: Option<[u8; 16]>) -> Value<'static>
 {
     match id {
         Some(id) => Value::Uuid(id),
+        None => Value::Null,
+    }
+}
+
+/// Whether something is so, where that is known.
+pub(crate) fn flag_or_null(flag: Option<bool>) -> Value<'static>
+    ensures { value_text result ≡ flag_or_null flag }
+{
+    match flag {
+        Some(flag) => Value::Flag(flag),
+        None => Value::Null,
+    }
+}
+
+/// A text, where it is known.
+pub(crate) fn text_or_null<'a>(text: Option<&'a str>) -> Value<'a>
+    ensures { value_text result ≡ string_or_null (option_map (λ t. t.now) text.entry) }
+{
+    match text {
+        Some(text) => Value::Text(text),
+        None => Value::Null,
+    }
+}
+
+/// Bytes, where they are known.
+pub(crate) fn hex_or_null<'a>(bytes: Option<&'a [u8]>) -> Value<'a>
+    ensures { value_text result ≡ hex_or_null (option_map (λ t. t.now) bytes.entry) }
+{
+    match bytes {
+        Some(bytes) => Value::Hex(bytes),
         None => Value::Null,
     }
 }

@@ -14,11 +14,12 @@ use crate::batch_name::{MOST, batch_name};
 use crate::connection::Connection;
 use crate::filter::is_failure;
 use crate::form::ExchangeForm;
+use crate::histogram::note_by_time;
 use crate::intervals::note_in_interval;
 use crate::label::Label;
 use crate::naming::Naming;
 use crate::outcome::Outcome;
-use crate::prepared::{Preparation, named};
+use crate::prepared::{Known, named};
 use crate::reply::reply_of;
 use crate::report::Report;
 use crate::span::{Span, took};
@@ -35,18 +36,19 @@ use std::alloc::Allocator;
 pub(crate) fn note<A: Allocator, B: Allocator>(
     summary: &mut Summary<A>,
     form: ExchangeForm,
-    known: &[Preparation<B>],
+    known: &Known<B>,
     connection: &Connection,
     report: &Report<B>,
 )
     ensures { summary.new ≡ noted_in form known.now connection.now (report_of report.now) summary.old }
 {
     match form {
-        ExchangeForm::Lines => {}
-        ExchangeForm::Json => {}
+        ExchangeForm::Lines(_) => {}
+        ExchangeForm::Json(_) => {}
         ExchangeForm::Summary(by) => note_report(summary, by, known, connection, report),
         ExchangeForm::SummaryJson(by) => note_report(summary, by, known, connection, report),
         ExchangeForm::Intervals(seconds) => note_in_interval(summary, seconds, report),
+        ExchangeForm::Histogram => note_by_time(summary, report),
     }
 }
 
@@ -54,7 +56,7 @@ pub(crate) fn note<A: Allocator, B: Allocator>(
 fn note_report<A: Allocator, B: Allocator>(
     summary: &mut Summary<A>,
     by: SummaryBy,
-    known: &[Preparation<B>],
+    known: &Known<B>,
     connection: &Connection,
     report: &Report<B>,
 )
@@ -69,7 +71,7 @@ fn note_report<A: Allocator, B: Allocator>(
 fn note_paired<A: Allocator, B: Allocator>(
     summary: &mut Summary<A>,
     by: SummaryBy,
-    known: &[Preparation<B>],
+    known: &Known<B>,
     connection: &Connection,
     paired: &Paired<Kept<B>>,
 )
@@ -123,7 +125,7 @@ pub(crate) fn unanswered<B: Allocator>(request: &Message<Kept<B>>) -> Outcome
 fn note_by<A: Allocator, B: Allocator>(
     summary: &mut Summary<A>,
     by: SummaryBy,
-    known: &[Preparation<B>],
+    known: &Known<B>,
     connection: &Connection,
     request: &Message<Kept<B>>,
     outcome: &Outcome,
@@ -142,7 +144,7 @@ fn note_by<A: Allocator, B: Allocator>(
 /// Counts a request under the table that its statement names, or under its opcode.
 fn note_table<A: Allocator, B: Allocator>(
     summary: &mut Summary<A>,
-    known: &[Preparation<B>],
+    known: &Known<B>,
     request: &Message<Kept<B>>,
     outcome: &Outcome,
 )
@@ -190,7 +192,7 @@ fn note_attribute<A: Allocator, B: Allocator>(
 fn note_request<A: Allocator, B: Allocator>(
     summary: &mut Summary<A>,
     naming: Naming,
-    known: &[Preparation<B>],
+    known: &Known<B>,
     request: &Message<Kept<B>>,
     outcome: &Outcome,
 )

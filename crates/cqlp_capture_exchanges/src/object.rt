@@ -5,7 +5,7 @@ ghost use Rattle.cqlp_capture_exchanges.specs.Reports.{report_of};
 ghost use Rattle.cqlp_json.specs.Lines.{texts};
 ghost use Rattle.cqlp_text.specs.Written.{Writes};
 ghost use Rattle.cqlp_observer.specs.declared.paired.Paired.TheVariants.{Exchange, Unanswered};
-ghost use Rattle.cqlp_capture_exchanges.specs.Objects.{alone_object, count_members, end_or_null, json_line, last_members};
+ghost use Rattle.cqlp_capture_exchanges.specs.Objects.{alone_object, count_members, end_or_null, error_members, json_line, last_members};
 ghost use Rattle.cqlp_capture_exchanges.specs.Objects.{message_as, message_members, none_whole, paired_object, place_members};
 ghost use Rattle.cqlp_capture_exchanges.specs.Objects.{protocol_name, query_members, reply_members, reply_values, request_frame_members};
 ghost use Rattle.cqlp_capture_exchanges.specs.Objects.{request_members, response_frame_members, response_members, result_members};
@@ -13,12 +13,16 @@ ghost use Rattle.cqlp_capture_exchanges.specs.Objects.{statement_as, statement_m
 ghost use Rattle.cqlp_capture_exchanges.specs.Members.{value_text};
 ghost use Rattle.cqlp_capture_exchanges.specs.Statements.{said_of};
 
+use crate::bound::put_values_members_if;
 use crate::connection::Connection;
+use crate::details_object::put_details;
+use crate::error_details::error_details;
+use crate::form::ValuesShown;
 use crate::member::{
-    Member, Value, consistency_or_null, name_or_code, number_or_null, put_members, seconds_or_null,
-    signed_or_null, utc_or_null, uuid_or_null,
+    Member, Value, consistency_or_null, flag_or_null, name_or_code, number_or_null, put_members,
+    seconds_or_null, signed_or_null, utc_or_null, uuid_or_null,
 };
-use crate::prepared::{Preparation, named};
+use crate::prepared::{Known, named};
 use crate::reply::{Reply, error_name, kind_name, message_of, reply_of};
 use crate::report::{ConnectionEnd, Report};
 use crate::span::{Span, is_whole, time_between, took};
@@ -33,31 +37,33 @@ use std::alloc::Allocator;
 /// passes it on.
 pub(crate) fn put_json_line<W: Target, A: Allocator, B: Allocator>(
     writer: &mut TextWriter<Buffered<W, A>>,
-    known: &[Preparation<B>],
+    known: &Known<B>,
+    shown: ValuesShown,
     first: Option<u64>,
     connection: &Connection,
     report: &Report<B>,
 ) -> Result<(), SinkFault>
-    ensures line { Writes writer.old (json_line known.now first connection.now (report_of report.now)) result writer.new }
+    ensures line { Writes writer.old (json_line known.now shown first connection.now (report_of report.now)) result writer.new }
     ensures passed { writer.new.waiting ≡ [] }
 {
-    put_report(writer, known, first, connection, report)?;
+    put_report(writer, known, shown, first, connection, report)?;
     writer.pass_on()
 }
 
 /// Takes the object of a report.
 fn put_report<P: Pen, A: Allocator>(
     writer: &mut TextWriter<P>,
-    known: &[Preparation<A>],
+    known: &Known<A>,
+    shown: ValuesShown,
     first: Option<u64>,
     connection: &Connection,
     report: &Report<A>,
 ) -> Result<(), SinkFault>
-    ensures { Writes writer.old (json_line known.now first connection.now (report_of report.now)) result writer.new }
+    ensures { Writes writer.old (json_line known.now shown first connection.now (report_of report.now)) result writer.new }
 {
     match report {
         Report::Messages { paired, end } => put_paired(
-            writer, known, first, connection, *end, paired,
+            writer, known, shown, first, connection, *end, paired,
         ),
         Report::Unread { time, opening } => put_unread(writer, first, connection, *time, *opening),
     }
@@ -127,20 +133,21 @@ fn version_or_null(opening: Opening) -> Value<'static>
 /// Takes the object of messages, whose connection ended so where that is why they are reported.
 fn put_paired<P: Pen, A: Allocator>(
     writer: &mut TextWriter<P>,
-    known: &[Preparation<A>],
+    known: &Known<A>,
+    shown: ValuesShown,
     first: Option<u64>,
     connection: &Connection,
     end: Option<ConnectionEnd>,
     reported: &Paired<Kept<A>>,
 ) -> Result<(), SinkFault>
-    ensures { Writes writer.old (paired_object known.now first connection.now end reported.now) result writer.new }
+    ensures { Writes writer.old (paired_object known.now shown first connection.now end reported.now) result writer.new }
 {
     match reported {
         Paired::Exchange { request, response } => {
-            put_exchange(writer, known, first, connection, request, response)
+            put_exchange(writer, known, shown, first, connection, request, response)
         }
         Paired::Unanswered { request } => put_unanswered(
-            writer, known, first, connection, end, request,
+            writer, known, shown, first, connection, end, request,
         ),
         Paired::Unasked { response } => put_alone(writer, "unasked", first, connection, response),
         Paired::Event { event } => put_alone(writer, "event", first, connection, event),
@@ -165,20 +172,21 @@ impl Last {
 /// Takes the object of a request with its response.
 fn put_exchange<P: Pen, A: Allocator>(
     writer: &mut TextWriter<P>,
-    known: &[Preparation<A>],
+    known: &Known<A>,
+    shown: ValuesShown,
     first: Option<u64>,
     connection: &Connection,
     request: &Message<Kept<A>>,
     response: &Message<Kept<A>>,
 ) -> Result<(), SinkFault>
-    ensures { Writes writer.old (paired_object known.now first connection.now None (Exchange request.now response.now)) result writer.new }
+    ensures { Writes writer.old (paired_object known.now shown first connection.now None (Exchange request.now response.now)) result writer.new }
 {
     let last = Last {
         time: took(&request.frame, &response.frame),
         end: None,
     };
     put_place(writer, "exchange", first, connection, &request.frame)?;
-    put_request(writer, known, request)?;
+    put_request(writer, known, shown, request)?;
     put_response(writer, response)?;
     put_last(writer, last)?;
     writer.put(b"}\n")
@@ -187,17 +195,18 @@ fn put_exchange<P: Pen, A: Allocator>(
 /// Takes the object of a request without a response, whose connection ended so where that is why.
 fn put_unanswered<P: Pen, A: Allocator>(
     writer: &mut TextWriter<P>,
-    known: &[Preparation<A>],
+    known: &Known<A>,
+    shown: ValuesShown,
     first: Option<u64>,
     connection: &Connection,
     end: Option<ConnectionEnd>,
     request: &Message<Kept<A>>,
 ) -> Result<(), SinkFault>
-    ensures { Writes writer.old (paired_object known.now first connection.now end (Unanswered request.now)) result writer.new }
+    ensures { Writes writer.old (paired_object known.now shown first connection.now end (Unanswered request.now)) result writer.new }
 {
     let last = Last { time: None, end };
     put_place(writer, "unanswered", first, connection, &request.frame)?;
-    put_request(writer, known, request)?;
+    put_request(writer, known, shown, request)?;
     put_last(writer, last)?;
     writer.put(b"}\n")
 }
@@ -271,10 +280,11 @@ fn end_or_null(end: Option<ConnectionEnd>) -> Value<'static>
 
 fn put_request<P: Pen, A: Allocator>(
     writer: &mut TextWriter<P>,
-    known: &[Preparation<A>],
+    known: &Known<A>,
+    shown: ValuesShown,
     request: &Message<Kept<A>>,
 ) -> Result<(), SinkFault>
-    ensures { Writes writer.old (request_members known.now request.now) result writer.new }
+    ensures { Writes writer.old (request_members known.now shown request.now) result writer.new }
 {
     let front = request.kept.front();
     let count = statements_of(&request.frame.header, front);
@@ -282,6 +292,7 @@ fn put_request<P: Pen, A: Allocator>(
     put_request_frame(writer, &request.frame)?;
     put_count(writer, count)?;
     put_statement(writer, request.kept.is_text_dropped(), &statement)?;
+    put_values_members_if(writer, known, shown, request)?;
     put_query(writer, &request.kept.facts())
 }
 
@@ -301,6 +312,10 @@ fn put_query<P: Pen>(writer: &mut TextWriter<P>, facts: &Facts) -> Result<(), Si
         &[
             Member(",\"consistency\":", consistency_or_null(facts.consistency)),
             Member(",\"page_size\":", signed_or_null(facts.page_size)),
+            Member(
+                ",\"has_paging_state\":",
+                flag_or_null(facts.has_paging_state),
+            ),
         ],
     )
 }
@@ -391,11 +406,30 @@ fn put_response<P: Pen, A: Allocator>(
     ensures { Writes writer.old (response_members response.now) result writer.new }
 {
     let reply = reply_of(&response.frame.header, response.kept.front());
-    let message = message_of(reply, response.kept.front());
     put_response_frame(writer, &response.frame)?;
     put_reply(writer, reply)?;
-    put_message(writer, response.kept.is_text_dropped(), &message)?;
+    put_error(
+        writer,
+        response.kept.is_text_dropped(),
+        reply,
+        response.kept.front(),
+    )?;
     put_result(writer, &response.kept.facts())
+}
+
+/// Takes the message of an ERROR, and what is behind it.
+fn put_error<P: Pen>(
+    writer: &mut TextWriter<P>,
+    is_given_up: bool,
+    reply: Reply,
+    front: &[u8],
+) -> Result<(), SinkFault>
+    ensures { Writes writer.old (error_members is_given_up reply front.now) result writer.new }
+{
+    let message = message_of(reply, front);
+    let details = error_details(reply, front);
+    put_message(writer, is_given_up, &message)?;
+    put_details(writer, &details)
 }
 
 /// Takes the message of an ERROR.
@@ -442,6 +476,7 @@ fn put_result<P: Pen>(writer: &mut TextWriter<P>, facts: &Facts) -> Result<(), S
         &[
             Member(",\"rows\":", signed_or_null(facts.rows)),
             Member(",\"columns\":", signed_or_null(facts.columns)),
+            Member(",\"has_more_pages\":", flag_or_null(facts.has_more_pages)),
             Member(",\"warnings\":", number_or_null(facts.warnings)),
             Member(",\"tracing_id\":", uuid_or_null(facts.trace_id)),
         ],

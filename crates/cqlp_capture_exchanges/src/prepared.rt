@@ -1,21 +1,23 @@
 //! Statements that were prepared: their texts by their ids.
 
-ghost use Rattle.std.specs.Prelude.{◌≡◌, ◌≤◌, drop, length, option_map, vec_capacity};
+ghost use Rattle.std.specs.Prelude.{◌≡◌, ◌≤◌, [], drop, length, option_map, vec_capacity, IfOk};
 ghost use Rattle.std.specs.List.{list_any};
 ghost use Rattle.std.specs.Str.{bytes_eq};
 ghost use Rattle.cqlp_capture_exchanges.specs.Prepared.{id_of_said, is_news, is_of, named, named_id, prepared_id};
-ghost use Rattle.cqlp_capture_exchanges.specs.Prepared.{text_for, with_one_more};
+ghost use Rattle.cqlp_capture_exchanges.specs.Prepared.{known_of, known_text, prepared_front, response_for, said_in, text_for, with_one_more};
 ghost use Rattle.cqlp_capture_exchanges.specs.Statements.{said_of, short_bytes};
+ghost use Rattle.cqlp_statement_file.specs.Texts.{text_of};
 
 use crate::reply::{Reply, reply_of};
 use crate::statement::{Statement, short_bytes, statement_of};
 use cqlp_note::Opcode;
 use cqlp_observer::{Kept, Message};
-use std::alloc::{Allocator, Global};
+use cqlp_statement_file::StatementTexts;
+use std::alloc::{AllocError, Allocator, Global};
 use std::marker::Model;
 
-/// How many statements are known at most.
-pub(crate) const MOST: usize = 256;
+/// How many statements that were prepared are known at most.
+const MOST: usize = 256;
 
 /// A PREPARE, and the response that gives its statement an id.
 #[derive(Drop)]
@@ -70,7 +72,7 @@ pub(crate) fn after_number(front: &[u8]) -> &[u8]
 }
 
 /// A \[short bytes\] at the front, if it is there whole.
-fn whole_id(bytes: &[u8]) -> Option<&[u8]>
+pub(crate) fn whole_id(bytes: &[u8]) -> Option<&[u8]>
     ensures { option_map (λ id. id.now) result ≡ id_of_said (short_bytes bytes.now) }
 {
     match short_bytes(bytes) {
@@ -91,9 +93,85 @@ fn text_for<'a, A: Allocator>(known: &'a [Preparation<A>], id: &[u8]) -> Option<
     None
 }
 
+/// Statements whose texts are known.
+#[derive(Drop)]
+pub(crate) struct Known<A: Allocator = Global> {
+    /// Those that were prepared, each by the first PREPARE whose response gave its id; of too many the one goes whose id came first.
+    prepared: Vec<Preparation<A>, A>,
+    given: StatementTexts,
+}
+
+impl<A: Allocator> Model for Known<A> {
+    ghost use Rattle.std.specs.Prelude.{◌≡◌, ◌≤◌, length, vec_capacity};
+    ghost use Rattle.cqlp_capture_exchanges.specs.Prepared.{Known, known_of};
+
+    ghost Value = { Known };
+
+    ghost view = { λ k. known_of k.prepared.items k.given };
+
+    ghost invariant = { λ k. (length k.prepared.items ≤ 256) × (vec_capacity k.prepared ≡ 256) };
+}
+
+impl<A: Allocator> Known<A> {
+    /// Those that were given, with room for those that are prepared.
+    pub(crate) fn new(alloc: A, given: StatementTexts) -> Result<Self, AllocError>
+        ensures { IfOk result (λ k. k ≡ known_of [] given) }
+    {
+        let prepared = Vec::with_capacity(alloc, MOST)?;
+        Ok(Known { prepared, given })
+    }
+
+    /// The first bytes of the response that gave the statement which a request asks for by its id, if that was prepared.
+    pub(crate) fn prepared_front(&self, said: Option<Statement<'_>>) -> &[u8]
+        ensures { result.now ≡ prepared_front self.now.prepared (option_map said_of said.entry) }
+    {
+        match said {
+            Some(Statement::Id { id, is_whole: true }) => response_for(&self.prepared, id),
+            _ => &[],
+        }
+    }
+
+    /// Whether a request is a PREPARE and its response gives its statement an id that no other PREPARE has.
+    pub(crate) fn is_news(&self, request: &Message<Kept<A>>, response: &Message<Kept<A>>) -> bool
+        ensures { result ≡ is_news self.now.prepared request.now response.now }
+    {
+        is_news(&self.prepared, request, response)
+    }
+
+    /// Puts a statement behind the others that were prepared; where there are too many, the first one goes.
+    pub(crate) fn add(&mut self, one: Preparation<A>)
+        ensures { self.new ≡ known_of (with_one_more one self.old.prepared) self.old.given }
+    {
+        add_known(&mut self.prepared, one);
+    }
+
+    /// The text of the statement with this id, if it is known.
+    fn text(&self, id: &[u8]) -> Option<Statement<'_>>
+        ensures { option_map said_of result ≡ known_text self.now id.now }
+    {
+        match text_for(&self.prepared, id) {
+            Some(text) => Some(text),
+            None => text_given(&self.given, id),
+        }
+    }
+}
+
+/// The text of the statement with this id, if it was given.
+fn text_given<'a>(given: &'a StatementTexts, id: &[u8]) -> Option<Statement<'a>>
+    ensures { option_map said_of result ≡ said_in (text_of given.now id.now) }
+{
+    match given.get(id) {
+        Some(text) => Some(Statement::Text {
+            text: text.as_str(),
+            is_whole: text.is_whole(),
+        }),
+        None => None,
+    }
+}
+
 /// What a request asks to be done, with the text of a statement that is known in place of its id.
 pub(crate) fn named<'a, A: Allocator>(
-    known: &'a [Preparation<A>],
+    known: &'a Known<A>,
     said: Option<Statement<'a>>,
 ) -> Option<Statement<'a>>
     ensures { option_map said_of result ≡ named known.now (option_map said_of said.entry) }
@@ -104,17 +182,29 @@ pub(crate) fn named<'a, A: Allocator>(
     }
 }
 
-fn text_or_id<'a, A: Allocator>(known: &'a [Preparation<A>], id: &'a [u8]) -> Option<Statement<'a>>
+fn text_or_id<'a, A: Allocator>(known: &'a Known<A>, id: &'a [u8]) -> Option<Statement<'a>>
     ensures { option_map said_of result ≡ named_id known.now id.now }
 {
-    match text_for(known, id) {
+    match known.text(id) {
         Some(text) => Some(text),
         None => Some(Statement::Id { id, is_whole: true }),
     }
 }
 
+/// The first bytes of the response that gave the statement with this id, if it is known.
+fn response_for<'a, A: Allocator>(known: &'a [Preparation<A>], id: &[u8]) -> &'a [u8]
+    ensures { result.now ≡ response_for known.now id.now }
+{
+    for one in known {
+        if one.is_of(id) {
+            return one.response.kept.front();
+        }
+    }
+    &[]
+}
+
 /// Whether a request is a PREPARE and its response gives its statement an id that is not known.
-pub(crate) fn is_news<A: Allocator>(
+fn is_news<A: Allocator>(
     known: &[Preparation<A>],
     request: &Message<Kept<A>>,
     response: &Message<Kept<A>>,
@@ -143,10 +233,7 @@ fn has_id<A: Allocator>(known: &[Preparation<A>], id: &[u8]) -> bool
 }
 
 /// Puts a statement behind the others; where there are too many, the first one goes.
-pub(crate) fn add_known<A: Allocator, B: Allocator>(
-    known: &mut Vec<Preparation<B>, A>,
-    one: Preparation<B>,
-)
+fn add_known<A: Allocator>(known: &mut Vec<Preparation<A>, A>, one: Preparation<A>)
     requires few { length known.old.items ≤ 256 }
     requires room { 256 ≤ vec_capacity known.old }
     ensures items { known.new.items ≡ with_one_more one known.old.items }

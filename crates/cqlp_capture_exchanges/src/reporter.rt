@@ -11,11 +11,12 @@ ghost use Rattle.cqlp_capture_exchanges.specs.Reports.{report_of};
 use crate::connection::Connection;
 use crate::filter::ExchangeFilter;
 use crate::form::ExchangeForm;
+use crate::histogram::put_histogram;
 use crate::intervals::{put_if_over, put_interval};
 use crate::lines::put_line;
 use crate::noting::note;
 use crate::object::put_json_line;
-use crate::prepared::{Preparation, add_known, is_news};
+use crate::prepared::{Known, Preparation};
 use crate::report::{ConnectionEnd, Report, is_unread};
 use crate::summary_objects::put_summary_objects;
 use crate::sums::ExchangeSums;
@@ -35,27 +36,26 @@ pub(crate) struct Reporter<O: Target, A: Allocator = Global> {
     form: ExchangeForm,
     /// When the first packet with a segment was captured of which that is known.
     first: Option<u64>,
-    /// Statements that were prepared, each by the first PREPARE whose response gave its id; of too many the one goes whose id came first.
-    known: Vec<Preparation<A>, A>,
+    known: Known<A>,
     summary: Summary<A>,
     sums: ExchangeSums,
     writer: TextWriter<Buffered<O, A>>,
 }
 
 impl<O: Target, A: Allocator> Model for Reporter<O, A> {
-    ghost use Rattle.std.specs.Prelude.{◌≡◌, ◌≤◌, [], length, vec_capacity};
+    ghost use Rattle.std.specs.Prelude.{◌≡◌, []};
     ghost use Rattle.cqlp_text.specs.Outputs.{output};
     ghost use Rattle.cqlp_capture_exchanges.specs.Accounts.{Account, account};
 
     ghost Value = { Account };
 
-    ghost view = { λ t. account t.filter t.form t.first t.known.items t.summary t.sums (output t.writer.given t.writer.failures) };
+    ghost view = { λ t. account t.filter t.form t.first t.known t.summary t.sums (output t.writer.given t.writer.failures) };
 
-    ghost invariant = { λ t. (t.writer.waiting ≡ []) × (length t.known.items ≤ 256) × (vec_capacity t.known ≡ 256) };
+    ghost invariant = { λ t. t.writer.waiting ≡ [] };
 }
 
 impl<O: Target, A: Allocator> Reporter<O, A> {
-    ghost use Rattle.std.specs.Prelude.{◌≤◌, [], vec_capacity, vec_len};
+    ghost use Rattle.std.specs.Prelude.{◌≤◌, vec_len};
     ghost use Rattle.cqlp_observer.specs.declared.paired.Paired.TheVariants.{Exchange};
     ghost use Rattle.cqlp_capture_exchanges.specs.Accounts.{Finishes, ReportsOne, ReportedAll, account, learned, no_sums, since};
     ghost use Rattle.cqlp_capture_exchanges.specs.Reports.{Messages, messages, unread};
@@ -66,13 +66,11 @@ impl<O: Target, A: Allocator> Reporter<O, A> {
         form: ExchangeForm,
         out: O,
         buffer: Vec<u8, A>,
-        known: Vec<Preparation<A>, A>,
+        known: Known<A>,
         summary: Summary<A>,
     ) -> Self
-        requires buffer { 128 ≤ vec_len buffer }
-        requires none { known.items ≡ [] }
-        requires room { vec_capacity known ≡ 256 }
-        ensures { result ≡ account filter form None [] summary no_sums (written O.Target out) }
+        requires { 128 ≤ vec_len buffer }
+        ensures { result ≡ account filter form None known summary no_sums (written O.Target out) }
     {
         Reporter {
             filter,
@@ -222,9 +220,8 @@ impl<O: Target, A: Allocator> Reporter<O, A> {
     )
         ensures { self.new ≡ learned (Messages (Exchange request response) end) self.old }
     {
-        if is_news(&self.known, &request, &response) {
-            let one = Preparation { request, response };
-            add_known(&mut self.known, one);
+        if self.known.is_news(&request, &response) {
+            self.known.add(Preparation { request, response });
         }
     }
 }
@@ -234,7 +231,7 @@ impl<O: Target, A: Allocator> Reporter<O, A> {
 fn put_report<W: Target, A: Allocator, B: Allocator>(
     writer: &mut TextWriter<Buffered<W, A>>,
     form: ExchangeForm,
-    known: &[Preparation<B>],
+    known: &Known<B>,
     first: Option<u64>,
     summary: &Summary<A>,
     connection: &Connection,
@@ -245,11 +242,14 @@ fn put_report<W: Target, A: Allocator, B: Allocator>(
     ensures passed { writer.new.waiting ≡ [] }
 {
     match form {
-        ExchangeForm::Lines => put_line(writer, known, first, connection.number, report),
-        ExchangeForm::Json => put_json_line(writer, known, first, connection, report),
+        ExchangeForm::Lines(style) => put_line(writer, known, style, first, connection, report),
+        ExchangeForm::Json(shown) => {
+            put_json_line(writer, known, shown, first, connection, report)
+        }
         ExchangeForm::Summary(_) => Ok(()),
         ExchangeForm::SummaryJson(_) => Ok(()),
         ExchangeForm::Intervals(seconds) => put_if_over(writer, seconds, summary, report),
+        ExchangeForm::Histogram => Ok(()),
     }
 }
 
@@ -265,11 +265,12 @@ fn put_ending<W: Target, A: Allocator>(
     ensures passed { writer.new.waiting ≡ [] }
 {
     match form {
-        ExchangeForm::Lines => Ok(()),
-        ExchangeForm::Json => Ok(()),
+        ExchangeForm::Lines(_) => Ok(()),
+        ExchangeForm::Json(_) => Ok(()),
         ExchangeForm::Summary(by) => put_summary(writer, by.heading(), summary),
         ExchangeForm::SummaryJson(by) => put_objects(writer, by.heading(), summary),
         ExchangeForm::Intervals(seconds) => put_interval(writer, seconds, summary),
+        ExchangeForm::Histogram => put_histogram(writer, summary),
     }
 }
 

@@ -9,11 +9,11 @@ use Rattle.cqlp_capture_exchanges.proofs.capturing.listen.Goals as goal
 
 pub returns-in-Err : goal.returns-in-Err
 returns-in-Err g c = λ xs is known.
-    (no_reads, (λ fits. omega arith, refl, λ fits. omega arith), (new_listening c.args.limits c.args.filter c.args.form (written g.O.Target c.args.out), _, inr (refl, refl, is, refl), c.none.ensures.sums, c.none.ensures.missed, (refl, c.in-Err.ensures.err)))
+    (no_reads, (λ fits. omega arith, refl, λ fits. omega arith), (new_listening c.args.limits c.args.given c.args.filter c.args.form (written g.O.Target c.args.out), _, inr (refl, refl, is, refl), c.none.ensures.sums, c.none.ensures.missed, (refl, c.in-Err.ensures.err)))
 
 pub returns : goal.returns
 returns g c = λ xs is known.
-    let first = new_listening c.args.limits c.args.filter c.args.form (written g.O.Target c.args.out) in
+    let first = new_listening c.args.limits c.args.given c.args.filter c.args.form (written g.O.Target c.args.out) in
     let takes_delivery = subst (λ (w : Listening). IsSome w.account.output.given) (sym c.in-Ok.ensures.ok) known in
     let read = c.read_capture-read.result in
     let heard = c.read_capture-read.new.listener in

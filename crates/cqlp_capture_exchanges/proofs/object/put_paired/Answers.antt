@@ -7,12 +7,12 @@ use Rattle.cqlp_capture_exchanges.proofs.object.put_paired.Goals as goal
 
 pub returns-in-Exchange : goal.returns-in-Exchange
 returns-in-Exchange g c =
-    subst (λ (t : Paired Kept). Writes c.args.writer.now (paired_object c.args.known.now c.args.first c.args.connection.now c.args.end t) c.put_exchange.result c.put_exchange.new.writer) (sym c.in-Exchange.is) c.put_exchange.ensures
+    subst (λ (t : Paired Kept). Writes c.args.writer.now (paired_object c.args.known.now c.args.shown c.args.first c.args.connection.now c.args.end t) c.put_exchange.result c.put_exchange.new.writer) (sym c.in-Exchange.is) c.put_exchange.ensures
 
 pub returns-in-Unasked : goal.returns-in-Unasked
 returns-in-Unasked g c =
-    subst (λ (t : Paired Kept). Writes c.args.writer.now (paired_object c.args.known.now c.args.first c.args.connection.now c.args.end t) c.put_alone.result c.put_alone.new.writer) (sym c.in-Unasked.is) c.put_alone.ensures
+    subst (λ (t : Paired Kept). Writes c.args.writer.now (paired_object c.args.known.now c.args.shown c.args.first c.args.connection.now c.args.end t) c.put_alone.result c.put_alone.new.writer) (sym c.in-Unasked.is) c.put_alone.ensures
 
 pub returns-in-Event : goal.returns-in-Event
 returns-in-Event g c =
-    subst (λ (t : Paired Kept). Writes c.args.writer.now (paired_object c.args.known.now c.args.first c.args.connection.now c.args.end t) c.put_alone-in-Event.result c.put_alone-in-Event.new.writer) (sym c.in-Event.is) c.put_alone-in-Event.ensures
+    subst (λ (t : Paired Kept). Writes c.args.writer.now (paired_object c.args.known.now c.args.shown c.args.first c.args.connection.now c.args.end t) c.put_alone-in-Event.result c.put_alone-in-Event.new.writer) (sym c.in-Event.is) c.put_alone-in-Event.ensures

@@ -6,4 +6,4 @@ use Rattle.cqlp_capture_exchanges.proofs.object.put_report.Goals as goal
 
 pub returns-in-Unread : goal.returns-in-Unread
 returns-in-Unread g c =
-    subst (λ r. Writes c.args.writer.now (json_line c.args.known.now c.args.first c.args.connection.now (report_of r)) c.put_unread.result c.put_unread.new.writer) (sym c.in-Unread.is) c.put_unread.ensures
+    subst (λ r. Writes c.args.writer.now (json_line c.args.known.now c.args.shown c.args.first c.args.connection.now (report_of r)) c.put_unread.result c.put_unread.new.writer) (sym c.in-Unread.is) c.put_unread.ensures

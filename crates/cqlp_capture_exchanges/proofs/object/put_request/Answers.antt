@@ -23,9 +23,17 @@ returns-in_err-put_statement g c =
     let s2 = said_next _ s1 refl (ap (λ z. texts (count_members z)) (c.statements_of-count.ensures ∙ ap (statements c.args.request.now.frame.header) c.front-front.ensures)) c.in_ok-put_count.ensures in
     said_stops _ c.from_residual-in_err-put_statement.result c.from_residual-in_err-put_statement.ensures.0 s2 refl (λ i. texts (statement_members (c.is_text_dropped.ensures i) ((c.named-statement.ensures ∙ ap (named c.args.known.now) (c.statement_of.ensures ∙ ap (statement c.args.request.now.frame.header) c.front-front.ensures)) i))) c.in_err-put_statement.ensures
 
+pub returns-in_err-put_values_members_if : goal.returns-in_err-put_values_members_if
+returns-in_err-put_values_members_if g c =
+    let s1 = said_next _ (progress_starts _ _) refl refl c.in_ok-put_request_frame.ensures in
+    let s2 = said_next _ s1 refl (ap (λ z. texts (count_members z)) (c.statements_of-count.ensures ∙ ap (statements c.args.request.now.frame.header) c.front-front.ensures)) c.in_ok-put_count.ensures in
+    let s3 = said_next _ s2 refl (λ i. texts (statement_members (c.is_text_dropped.ensures i) ((c.named-statement.ensures ∙ ap (named c.args.known.now) (c.statement_of.ensures ∙ ap (statement c.args.request.now.frame.header) c.front-front.ensures)) i))) c.in_ok-put_statement.ensures in
+    said_stops _ c.from_residual-in_err-put_values_members_if.result c.from_residual-in_err-put_values_members_if.ensures.0 s3 refl refl c.in_err-put_values_members_if.ensures
+
 pub returns : goal.returns
 returns g c =
     let s1 = said_next _ (progress_starts _ _) refl refl c.in_ok-put_request_frame.ensures in
     let s2 = said_next _ s1 refl (ap (λ z. texts (count_members z)) (c.statements_of-count.ensures ∙ ap (statements c.args.request.now.frame.header) c.front-front.ensures)) c.in_ok-put_count.ensures in
     let s3 = said_next _ s2 refl (λ i. texts (statement_members (c.is_text_dropped.ensures i) ((c.named-statement.ensures ∙ ap (named c.args.known.now) (c.statement_of.ensures ∙ ap (statement c.args.request.now.frame.header) c.front-front.ensures)) i))) c.in_ok-put_statement.ensures in
-    said_last _ _ c.put_query.result s3 refl (ap (λ (f : Facts). texts (query_members f)) c.facts.ensures) c.put_query.ensures
+    let s4 = said_next _ s3 refl refl c.in_ok-put_values_members_if.ensures in
+    said_last _ _ c.put_query.result s4 refl (ap (λ (f : Facts). texts (query_members f)) c.facts.ensures) c.put_query.ensures

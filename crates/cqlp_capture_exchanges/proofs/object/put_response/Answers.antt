@@ -1,8 +1,8 @@
 use Rattle.std.proofs.Common.{ap, refl, ◌∙◌}
 use Rattle.cqlp_json.specs.Lines.{texts}
 use Rattle.cqlp_observer_facts.specs.declared.facts.Facts.{Facts}
-use Rattle.cqlp_capture_exchanges.specs.Objects.{message_members, reply_members, result_members}
-use Rattle.cqlp_capture_exchanges.specs.Replies.{message, reply}
+use Rattle.cqlp_capture_exchanges.specs.Objects.{error_members, reply_members, result_members}
+use Rattle.cqlp_capture_exchanges.specs.Replies.{reply}
 use Rattle.cqlp_text.proofs.Writing.{progress_starts}
 use Rattle.cqlp_capture_exchanges.proofs.Texts.{said_last, said_next, said_stops}
 use Rattle.cqlp_capture_exchanges.proofs.object.put_response.Goals as goal
@@ -16,15 +16,15 @@ returns-in_err-put_reply g c =
     let s1 = said_next _ (progress_starts _ _) refl refl c.in_ok-put_response_frame.ensures in
     said_stops _ c.from_residual-in_err-put_reply.result c.from_residual-in_err-put_reply.ensures.0 s1 refl (ap (λ z. texts (reply_members z)) (c.reply_of-reply.ensures ∙ ap (reply c.args.response.now.frame.header) c.front.ensures)) c.in_err-put_reply.ensures
 
-pub returns-in_err-put_message : goal.returns-in_err-put_message
-returns-in_err-put_message g c =
+pub returns-in_err-put_error : goal.returns-in_err-put_error
+returns-in_err-put_error g c =
     let s1 = said_next _ (progress_starts _ _) refl refl c.in_ok-put_response_frame.ensures in
     let s2 = said_next _ s1 refl (ap (λ z. texts (reply_members z)) (c.reply_of-reply.ensures ∙ ap (reply c.args.response.now.frame.header) c.front.ensures)) c.in_ok-put_reply.ensures in
-    said_stops _ c.from_residual-in_err-put_message.result c.from_residual-in_err-put_message.ensures.0 s2 refl (λ i. texts (message_members (c.is_text_dropped.ensures i) ((c.message_of-message.ensures ∙ (λ i. message ((c.reply_of-reply.ensures ∙ ap (reply c.args.response.now.frame.header) c.front.ensures) i) (c.front-2.ensures i))) i))) c.in_err-put_message.ensures
+    said_stops _ c.from_residual-in_err-put_error.result c.from_residual-in_err-put_error.ensures.0 s2 refl (λ i. error_members (c.is_text_dropped.ensures i) ((c.reply_of-reply.ensures ∙ ap (reply c.args.response.now.frame.header) c.front.ensures) i) (c.front-2.ensures i)) c.in_err-put_error.ensures
 
 pub returns : goal.returns
 returns g c =
     let s1 = said_next _ (progress_starts _ _) refl refl c.in_ok-put_response_frame.ensures in
     let s2 = said_next _ s1 refl (ap (λ z. texts (reply_members z)) (c.reply_of-reply.ensures ∙ ap (reply c.args.response.now.frame.header) c.front.ensures)) c.in_ok-put_reply.ensures in
-    let s3 = said_next _ s2 refl (λ i. texts (message_members (c.is_text_dropped.ensures i) ((c.message_of-message.ensures ∙ (λ i. message ((c.reply_of-reply.ensures ∙ ap (reply c.args.response.now.frame.header) c.front.ensures) i) (c.front-2.ensures i))) i))) c.in_ok-put_message.ensures in
+    let s3 = said_next _ s2 refl (λ i. error_members (c.is_text_dropped.ensures i) ((c.reply_of-reply.ensures ∙ ap (reply c.args.response.now.frame.header) c.front.ensures) i) (c.front-2.ensures i)) c.in_ok-put_error.ensures in
     said_last _ _ c.put_result.result s3 refl (ap (λ (f : Facts). texts (result_members f)) c.facts.ensures) c.put_result.ensures

@@ -1,8 +1,8 @@
 use Rattle.std.proofs.Common.{ap, refl}
-use Rattle.cqlp_capture_exchanges.specs.Lines.{short_name}
+use Rattle.cqlp_capture_exchanges.specs.Levels.{short_name}
 use Rattle.cqlp_text.proofs.Writing.{progress_starts}
 use Rattle.cqlp_capture_exchanges.proofs.Texts.{said_last, said_next, said_stops}
-use Rattle.cqlp_capture_exchanges.proofs.lines.put_level.Goals as goal
+use Rattle.cqlp_capture_exchanges.proofs.level.put_level.Goals as goal
 
 pub returns-in_err-put : goal.returns-in_err-put
 returns-in_err-put g c =
