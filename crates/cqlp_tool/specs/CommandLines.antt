@@ -108,6 +108,7 @@ Executes files (Ok (line.Loop queries)) before status after =
     ConversesAndReports queries before.out before.err status after.out after.err
 Executes files (Ok (line.Capture options)) before status after =
     IsCaptureOfInput options → DoesCaptureTask buffering.Line options.limits options.task (named options.ports) before status after
+Executes files (Ok (line.Merge options)) before status after = Unit
 Executes files (Err reason) before status after =
     PrintsNoTask reason before.out before.err status after.out after.err
 
@@ -116,6 +117,7 @@ abbrev pub NeedsNoInput : Result CommandLine NoTask → Type 0
 NeedsNoInput (Ok (line.Stream options)) = options.file.now ≢ codes "-"
 NeedsNoInput (Ok (line.Loop queries)) = Unit
 NeedsNoInput (Ok (line.Capture options)) = options.file.now ≢ codes "-"
+NeedsNoInput (Ok (line.Merge options)) = options.file.now ≢ codes "-"
 NeedsNoInput (Err reason) = Unit
 
 -- It is no task with a capture in a file.
@@ -123,6 +125,7 @@ abbrev pub ReadsNoCapture : Result CommandLine NoTask → Type 0
 ReadsNoCapture (Ok (line.Stream options)) = Unit
 ReadsNoCapture (Ok (line.Loop queries)) = Unit
 ReadsNoCapture (Ok (line.Capture options)) = options.file.now ≡ codes "-"
+ReadsNoCapture (Ok (line.Merge options)) = Unit
 ReadsNoCapture (Err reason) = Unit
 
 -- What a command line of these words does: without words it shows the input, and no status is greater than that of

@@ -10,7 +10,9 @@ pub mod laws;
 mod limits;
 mod line;
 mod marks;
+mod path_lines;
 mod progress;
+mod statements;
 
 pub use command_line::{command, command_with_notes, execute};
 pub use conversing::converse;

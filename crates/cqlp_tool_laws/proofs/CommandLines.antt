@@ -211,7 +211,7 @@ module _ (before : Streams) (status status' : â„•) (after after' : Streams) wher
   capture_once by l (capture_task.Exchanges asked) ports known a b alike =
       let x = a known.bytes known.left known.out known.err in
       let y = b known.bytes known.left known.out known.err in
-      let one = exchanges_once by by (streams_limits_of by l) (exchange_limits_of l) (filter_of asked) (form_of asked.form) ports known.bytes before.out before.err x.0 y.0 after.input.left after'.input.left status status' after.out after'.out after.err after'.err x.2 alike.0 y.2 alike.1 in
+      let one = exchanges_once by by (streams_limits_of by l) (exchange_limits_of l) [] (filter_of asked) (form_of asked.form) ports known.bytes before.out before.err x.0 y.0 after.input.left after'.input.left status status' after.out after'.out after.err after'.err x.2 alike.0 y.2 alike.1 in
       (one.0, inl one.1, inl one.2)
   capture_once by l (capture_task.Events asked) ports known a b alike =
       let x = a known.bytes known.left known.out known.err in
@@ -234,7 +234,7 @@ pub captures_caused : CaptureFaultsHaveCauses
 captures_caused b l (capture_task.Streams folder) ports before after known does = tt
 captures_caused b l (capture_task.Exchanges asked) ports before after known does =
     let x = does known.bytes known.left known.out known.err in
-    caused before after x.0 x.1 (exchanges_causes b (streams_limits_of b l) (exchange_limits_of l) (filter_of asked) (form_of asked.form) ports known.bytes x.0 after.input.left before.out before.err after.out after.err x.2)
+    caused before after x.0 x.1 (exchanges_causes b (streams_limits_of b l) (exchange_limits_of l) [] (filter_of asked) (form_of asked.form) ports known.bytes x.0 after.input.left before.out before.err after.out after.err x.2)
 captures_caused b l (capture_task.Events asked) ports before after known does =
     let x = does known.bytes known.left known.out known.err in
     caused before after x.0 x.1 (events_causes (streams_limits_of b l) asked ports known.bytes x.0 after.input.left before.out before.err after.out after.err x.2)
@@ -256,6 +256,7 @@ module _ {F : Type 0} (files : Ghosts F) (before : Streams) (status status' : â„
       let reported = reported_once a.0 before.err after.err after'.err status status' met.error.fails (a.2 met.error.known) reports in
       (reported.0, inl one.1, reported.1)
   line_once (Ok (line.Capture options)) a b alike = capture_once before status status' after after' buffering.Line options.limits options.task (named options.ports) alike.1 (a alike.0) (b alike.0) alike.2
+  line_once (Ok (line.Merge options)) a b alike = absurd alike
   line_once (Err (no_task.Help text)) a b alike = helped_once before status status' after after' (string_bytes text) alike.fails alike.error.fails (a alike.known alike.error.known) (b alike.known alike.error.known)
   line_once (Err (no_task.Mistake text)) a b alike =
       let one = complained_once (string_bytes text) before.err after.err after'.err status status' alike.fails (a alike.known).1 (b alike.known).1 in

@@ -241,7 +241,7 @@ CaptureFaultsHaveCauses =
 
 -- ---- a command line
 
--- To two executions of a command line, which names no capture in a file, the outside did the same: the input, the file of a
+-- To two executions of a command line, which names no capture in a file and adds no summaries, the outside did the same: the input, the file of a
 -- stream, both outputs, memory, the turns, the network, and the folder for a capture's streams.
 module _ {F : Type 0} (files : Ghosts F) (before : Streams) (status status' : ℕ) (after after' : Streams) where
   abbrev pub AreMetAlike : (l : Result CommandLine NoTask) → Executes files l before status after
@@ -253,6 +253,7 @@ module _ {F : Type 0} (files : Ghosts F) (before : Streams) (status status' : �
   AreMetAlike (Ok (line.Capture options)) does does' =
       (is : IsCaptureOfInput options) × (known : AreKnown before)
       × IsCaptureMetAlike before status status' after after' buffering.Line options.limits options.task (named options.ports) (does is) (does' is)
+  AreMetAlike (Ok (line.Merge options)) does does' = ⊥
   AreMetAlike (Err (no_task.Help text)) does does' = AreOutputsMetAlike before after after'
   AreMetAlike (Err (no_task.Mistake text)) does does' = IsErrorMetAlike before after after'
   AreMetAlike (Err no_task.NoMemory) does does' = IsErrorMetAlike before after after'
