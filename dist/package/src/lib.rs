@@ -393,6 +393,9 @@ mod cqlp_capture_events;
 mod cqlp_capture_frames;
 #[cfg(feature = "cli")]
 #[rustfmt::skip]
+mod cqlp_capture_merge;
+#[cfg(feature = "cli")]
+#[rustfmt::skip]
 mod cqlp_capture_rows;
 #[cfg(feature = "cli")]
 #[rustfmt::skip]
@@ -423,7 +426,15 @@ mod cqlp_capture_streams;
 mod cqlp_capture_summary;
 #[cfg(feature = "cli")]
 #[rustfmt::skip]
+mod cqlp_statement_file;
+#[cfg(feature = "cli")]
+#[rustfmt::skip]
+mod cqlp_bound_values;
+#[cfg(feature = "cli")]
+#[rustfmt::skip]
 mod cqlp_tool;
+#[cfg(feature = "cli")]
+mod json;
 #[cfg(feature = "cli")]
 mod kit_host;
 #[cfg(feature = "cli")]

@@ -20,6 +20,8 @@ mod digits;
 #[cfg(test)]
 mod heap;
 #[cfg(test)]
+mod json_texts;
+#[cfg(test)]
 mod mutated;
 #[cfg(test)]
 mod watched;

@@ -5,10 +5,11 @@
 use crate::cqlp_tcp_connections::Way;
 use crate::cqlp_capture_events::write_events;
 use crate::cqlp_capture_rows::write_rows;
-use crate::cqlp_capture_exchanges::{Attribute, ExchangeFilter, ExchangeForm, ExchangeLimits, Naming, SummaryBy, write_exchanges};
+use crate::cqlp_capture_exchanges::{Attribute, ExchangeFilter, ExchangeForm, ExchangeLimits, LineStyle, Naming, SummaryBy, ValuesShown, write_exchanges};
 use crate::cqlp_note::{IoFault, OfStd, Source};
 use crate::cqlp_capture_streams::{Buffering, CaptureInput, FileFault, StreamFile, StreamFiles, StreamsLimits, write_streams};
 use crate::heap::measured;
+use crate::cqlp_statement_file::StatementTexts;
 use crate::kit_std::alloc::Global;
 use std::collections::HashMap;
 
@@ -133,7 +134,7 @@ fn outcome(file: &[u8], most: usize, room: isize, write: impl Fn(&mut Pieces, Of
 
 /// The exchanges in a file that are asked for, in this form.
 fn exchanges(file: &[u8], most: usize, ports: &[u16], filter: ExchangeFilter, form: ExchangeForm) -> Outcome {
-    outcome(file, most, 64, |pieces, out, err| write_exchanges(Global, StreamsLimits::DEFAULT, ExchangeLimits::DEFAULT, ports, filter, form, Buffering::Block, pieces, out, err))
+    outcome(file, most, 64, |pieces, out, err| write_exchanges(Global, StreamsLimits::DEFAULT, ExchangeLimits::DEFAULT, ports, StatementTexts::new(Global), filter, form, Buffering::Block, pieces, out, err))
 }
 
 /// The events of the frames in a file.
@@ -234,7 +235,8 @@ fn changed_captures() {
         let faulty = made(&file, most, ports, numbers.below(5_000));
         assert!(faulty.status == 3 || faulty == whole);
         assert!(whole.kept.starts_with(&faulty.kept) && whole.lines.starts_with(&faulty.lines));
-        let [lines, objects, summary] = [ExchangeForm::Lines, ExchangeForm::Json, ExchangeForm::Summary(SummaryBy::Statement(Naming::Fingerprint))].map(|form| {
+        let by_statement = ExchangeForm::Summary(SummaryBy::Statement(Naming::Fingerprint));
+        let [lines, objects, summary] = [ExchangeForm::Lines(LineStyle::PLAIN), ExchangeForm::Json(ValuesShown::No), by_statement].map(|form| {
             let whole = exchanges(&file, usize::MAX, ports, ExchangeFilter::ALL, form);
             assert_eq!(exchanges(&file, most, ports, ExchangeFilter::ALL, form), whole);
             whole
@@ -253,7 +255,10 @@ fn changed_captures() {
         assert_eq!(events(&file, most, ports), events(&file, usize::MAX, ports));
         let connection = 1 + numbers.below(20) as u64;
         assert_eq!(rows(&file, most, ports, connection), rows(&file, usize::MAX, ports, connection));
-        let errors = exchanges(&file, usize::MAX, ports, ExchangeFilter { errors: true, ..ExchangeFilter::ALL }, ExchangeForm::Lines);
+        let errors = exchanges(&file, usize::MAX, ports, ExchangeFilter { errors: true, ..ExchangeFilter::ALL }, ExchangeForm::Lines(LineStyle::PLAIN));
+        let [with_values, objects_with] = [ExchangeForm::Lines(LineStyle { values: ValuesShown::Yes, ..LineStyle::PLAIN }), ExchangeForm::Json(ValuesShown::Yes)].map(|form| exchanges(&file, most, ports, ExchangeFilter::ALL, form));
+        assert_eq!((with_values.0, with_values.1.lines().count(), &with_values.2), (lines.0, lines.1.lines().count(), &lines.2));
+        assert_eq!((objects_with.0, objects_with.1.lines().count(), &objects_with.2), (lines.0, lines.1.lines().count(), &lines.2));
         let mut all = lines.1.lines();
         assert!(errors.1.lines().all(|line| all.any(|other| other == line)));
     }

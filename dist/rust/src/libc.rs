@@ -26,3 +26,15 @@ pub fn ignore_interrupts() {
     const SIGINT: i32 = 2;
     unsafe { signal(SIGINT, IGNORED) };
 }
+
+/// How wide the terminal is that standard output is, if it is one.
+pub fn terminal_columns() -> Option<usize> {
+    const TIOCGWINSZ: std::ffi::c_ulong = 0x5413; // Of Linux.
+    unsafe extern "C" {
+        fn ioctl(fd: i32, request: std::ffi::c_ulong, ...) -> i32;
+    }
+    // Rows and columns, and the same in pixels.
+    let mut size = [0u16; 4];
+    let is_known = cfg!(target_os = "linux") && unsafe { ioctl(1, TIOCGWINSZ, &mut size) } == 0;
+    (is_known && size[1] > 0).then_some(size[1].into())
+}

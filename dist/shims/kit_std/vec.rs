@@ -1,5 +1,7 @@
 //! `Vec`, whose memory may be refused.
 use super::alloc::{AllocError, AllocFailed, Allocator, Global};
+use core::borrow::Borrow;
+use core::cmp::Ordering;
 use core::ops::{Deref, DerefMut, Range};
 
 /// Rust's `Vec`, but that what needs memory may be refused. One of Rust's becomes one by `into()`, and again by [`Vec::into_std`].
@@ -112,6 +114,24 @@ impl<T, A: Allocator> Vec<T, A> {
 
     /// Its items.
     pub fn as_slice(&self) -> &[T] {
+        &self.items
+    }
+}
+
+impl<T: PartialOrd, A: Allocator + PartialEq> PartialOrd for Vec<T, A> {
+    fn partial_cmp(&self, other: &Self) -> Option<Ordering> {
+        self.items.partial_cmp(&other.items)
+    }
+}
+
+impl<T: Ord, A: Allocator + Eq> Ord for Vec<T, A> {
+    fn cmp(&self, other: &Self) -> Ordering {
+        self.items.cmp(&other.items)
+    }
+}
+
+impl<T, A: Allocator> Borrow<[T]> for Vec<T, A> {
+    fn borrow(&self) -> &[T] {
         &self.items
     }
 }

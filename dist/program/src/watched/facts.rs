@@ -51,10 +51,12 @@ pub fn words(facts: &Facts) -> String {
     [
         facts.consistency.map(|level| format!(" consistency {level}")),
         facts.page_size.map(|size| format!(" page {size}")),
+        facts.has_paging_state.map(|has| format!(" next {has}")),
         facts.trace_id.map(|id| format!(" trace {}", fold(0, &id))),
         facts.warnings.map(|count| format!(" warnings {count}")),
         facts.result.map(|kind| format!(" result {kind}")),
         facts.error.map(|code| format!(" error {code}")),
+        facts.has_more_pages.map(|has| format!(" more {has}")),
         facts.columns.map(|count| format!(" columns {count}")),
         facts.rows.map(|count| format!(" rows {count}")),
     ]

@@ -6,6 +6,7 @@
 mod connections;
 mod exchanges;
 mod facts;
+mod statements;
 mod summaries;
 mod tables;
 

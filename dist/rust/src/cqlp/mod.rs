@@ -2,8 +2,12 @@
 //! Reads streams of the CQL native protocol v4, as its words say, and writes what is in them; or has a client and a server talk.
 
 use crate::kit_host::prelude::{AllocGlobal, HostRuntime, eprintln};
+mod screen;
+mod terminal;
 mod words;
 
+use crate::cqlp::screen::Screen;
+use crate::cqlp::terminal::table_for;
 use crate::cqlp::words::{Argument, NotRead, read_words, redirect, texts};
 use crate::cqlp_note::OfStd;
 use crate::cqlp_text::cannot_open_line;
@@ -34,15 +38,15 @@ fn run(rt: &HostRuntime) -> Result<u8, AllocError> {
         }
     }
     let texts = texts(rt.alloc(), &words)?;
+    let texts = texts.as_slice();
     let mut input = OfStd::new(rt.stdin());
-    let out = OfStd::new(rt.stdout());
+    let out = Screen::new(OfStd::new(rt.stdout()), table_for(rt, texts));
     let err = OfStd::new(rt.stderr());
     let mut notes = if rt.stderr().is_terminal() {
         Some(OfStd::new(rt.stderr()))
     } else {
         None
     };
-    let texts = texts.as_slice();
     let (status, _, _) = command_with_notes(rt, texts, &mut input, out, err, &mut notes);
     Ok(status)
 }

@@ -15,11 +15,13 @@ use crate::cqlp_capture_streams::{
 use crate::cqlp_grammar::SinkFault;
 use crate::cqlp_note::Target;
 use crate::cqlp_observer::Missed;
+use crate::cqlp_statement_file::StatementTexts;
 use crate::cqlp_text::{Pen, TextWriter};
 use crate::kit_std::alloc::Global;
 
 /// Pairs the requests on the connections of a capture with their responses, of nodes that listen on these ports, within these limits. Writes each that the
-/// filter shows to `out` in this form, and what the capture was, or the fault line, to `err`. Answers the exit status and the two outputs.
+/// filter shows to `out` in this form, with these texts of statements where the capture has no PREPARE with the id, and what the capture was, or the fault
+/// line, to `err`. Answers the exit status and the two outputs.
 ///
 /// Lines are written at once, or in blocks; without memory for a block also at once. The last block is written before the last line. After a fault
 /// nothing more is asked of what failed.
@@ -28,6 +30,7 @@ pub(crate) fn write_exchanges<R: CaptureInput, O: Target, E: Target>(
     streams: StreamsLimits,
     limits: ExchangeLimits,
     ports: &[u16],
+    given: StatementTexts,
     filter: ExchangeFilter,
     form: ExchangeForm,
     buffering: Buffering,
@@ -36,7 +39,7 @@ pub(crate) fn write_exchanges<R: CaptureInput, O: Target, E: Target>(
     err: E,
 ) -> (u8, O, E) {
     let (answer, counts, out) = listen_by(
-        alloc, streams, limits, ports, filter, form, buffering, input, out,
+        alloc, streams, limits, ports, given, filter, form, buffering, input, out,
     );
     let (status, err) = conclude(streams, limits, ports, &answer, &counts, err);
     (status, out, err)
@@ -65,6 +68,7 @@ fn listen_by<R: CaptureInput, O: Target>(
     streams: StreamsLimits,
     limits: ExchangeLimits,
     ports: &[u16],
+    given: StatementTexts,
     filter: ExchangeFilter,
     form: ExchangeForm,
     buffering: Buffering,
@@ -72,12 +76,18 @@ fn listen_by<R: CaptureInput, O: Target>(
     out: O,
 ) -> (Result<CaptureRead, StreamsFault>, Counts, O) {
     match buffering {
-        Buffering::Line => listen(alloc, streams, limits, ports, filter, form, input, out),
+        Buffering::Line => listen(
+            alloc, streams, limits, ports, given, filter, form, input, out,
+        ),
         Buffering::Block => match BlockWriter::new(alloc, out) {
             Ok(blocks) => {
-                listen_in_blocks(alloc, streams, limits, ports, filter, form, input, blocks)
+                listen_in_blocks(
+                    alloc, streams, limits, ports, given, filter, form, input, blocks,
+                )
             }
-            Err(out) => listen(alloc, streams, limits, ports, filter, form, input, out),
+            Err(out) => listen(
+                alloc, streams, limits, ports, given, filter, form, input, out,
+            ),
         },
     }
 }
@@ -88,12 +98,15 @@ fn listen_in_blocks<R: CaptureInput, O: Target>(
     streams: StreamsLimits,
     limits: ExchangeLimits,
     ports: &[u16],
+    given: StatementTexts,
     filter: ExchangeFilter,
     form: ExchangeForm,
     input: &mut R,
     blocks: BlockWriter<O>,
 ) -> (Result<CaptureRead, StreamsFault>, Counts, O) {
-    let (read, counts, blocks) = listen(alloc, streams, limits, ports, filter, form, input, blocks);
+    let (read, counts, blocks) = listen(
+        alloc, streams, limits, ports, given, filter, form, input, blocks,
+    );
     let (answer, out) = finish_blocks(read, blocks);
     (answer, counts, out)
 }
@@ -104,12 +117,13 @@ fn listen<R: CaptureInput, O: Target>(
     streams: StreamsLimits,
     limits: ExchangeLimits,
     ports: &[u16],
+    given: StatementTexts,
     filter: ExchangeFilter,
     form: ExchangeForm,
     input: &mut R,
     out: O,
 ) -> (Result<CaptureRead, StreamsFault>, Counts, O) {
-    let mut exchanges = match Exchanges::new(alloc, limits, filter, form, out) {
+    let mut exchanges = match Exchanges::new(alloc, limits, given, filter, form, out) {
         Ok(exchanges) => exchanges,
         Err(out) => return (Err(StreamsFault::NoMemory), Counts::none(), out),
     };

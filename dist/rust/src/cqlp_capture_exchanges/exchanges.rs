@@ -5,7 +5,7 @@ use crate::kit_host::prelude::{AllocGlobal, Clone, ToCopy, Vec, vec};
 use crate::cqlp_capture_exchanges::filter::ExchangeFilter;
 use crate::cqlp_capture_exchanges::form::ExchangeForm;
 use crate::cqlp_capture_exchanges::pool::ExchangeLimits;
-use crate::cqlp_capture_exchanges::prepared::{MOST, Preparation};
+use crate::cqlp_capture_exchanges::prepared::Known;
 use crate::cqlp_capture_exchanges::reporter::Reporter;
 use crate::cqlp_capture_exchanges::sums::ExchangeSums;
 use crate::cqlp_capture_exchanges::table::Table;
@@ -14,6 +14,7 @@ use crate::cqlp_capture_summary::Summary;
 use crate::cqlp_grammar::SinkFault;
 use crate::cqlp_note::Target;
 use crate::cqlp_observer::Missed;
+use crate::cqlp_statement_file::StatementTexts;
 use crate::cqlp_tcp_connections::{ConnectionTotals, Delivery};
 use crate::kit_std::alloc::{AllocError, Allocator, Global};
 
@@ -30,16 +31,17 @@ pub struct Exchanges<O: Target, A: Allocator = Global> {
 }
 
 impl<O: Target, A: Allocator + Clone> Exchanges<O, A> {
-    /// Nothing is watched, and exchanges go to this output in this form. Takes memory for a line, for 256 statements and for a summary; where it is not
-    /// granted, the output is given back.
+    /// Nothing is watched, these texts of statements are known, and exchanges go to this output in this form. Takes memory for a line, for 256 statements
+    /// and for a summary; where it is not granted, the output is given back.
     pub fn new(
         alloc: A,
         limits: ExchangeLimits,
+        given: StatementTexts,
         filter: ExchangeFilter,
         form: ExchangeForm,
         out: O,
     ) -> Result<Self, O> {
-        match take_memory(alloc, limits, form) {
+        match take_memory(alloc, limits, given, form) {
             Ok(
                 Room {
                     table,
@@ -114,18 +116,19 @@ impl<O: Target, A: Allocator + Clone> Exchanges<O, A> {
 struct Room<A: Allocator> {
     table: Table<A>,
     buffer: Vec<u8, A>,
-    known: Vec<Preparation<A>, A>,
+    known: Known<A>,
     summary: Summary<A>,
 }
 
 fn take_memory<A: Allocator + Clone>(
     alloc: A,
     limits: ExchangeLimits,
+    given: StatementTexts,
     form: ExchangeForm,
 ) -> Result<Room<A>, AllocError> {
     let table = Table::new(alloc.to_copy()?, limits)?;
     let buffer = vec![in alloc.to_copy()?; 0; ROOM]?;
-    let known = Vec::with_capacity(alloc.to_copy()?, MOST)?;
+    let known = Known::new(alloc.to_copy()?, given)?;
     let summary = Summary::new(alloc, form.statements())?;
     Ok(Room {
         table,

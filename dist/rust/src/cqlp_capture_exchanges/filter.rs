@@ -3,7 +3,8 @@
 
 use crate::cqlp_capture_exchanges::connection::Connection;
 use crate::cqlp_capture_exchanges::part::{StatementPart, is_part};
-use crate::cqlp_capture_exchanges::prepared::{Preparation, named, same_bytes};
+use crate::cqlp_capture_exchanges::prepared::{Known, named, same_bytes};
+use crate::cqlp_capture_exchanges::reply::{Reply, reply_of};
 use crate::cqlp_capture_exchanges::report::Report;
 use crate::cqlp_capture_exchanges::span::{Span, is_short, time_between, took};
 use crate::cqlp_capture_exchanges::statement::{Statement, statement_of};
@@ -37,6 +38,17 @@ pub enum Moment {
     At(u64),
 }
 
+/// What a response may be.
+#[derive(Clone, Copy)]
+pub enum ReplyKind {
+    /// A RESULT of this kind. Section 4.2.5 of `native_protocol_v4.spec`.
+    Result(u32),
+    /// An ERROR with this code. Section 9 of `native_protocol_v4.spec`.
+    Error(u32),
+    /// Any response with this opcode.
+    Response(Opcode),
+}
+
 /// Which of the exchanges are shown: those that all of these ask for.
 #[derive(Clone, Copy)]
 pub struct ExchangeFilter {
@@ -46,6 +58,8 @@ pub struct ExchangeFilter {
     pub errors: bool,
     /// Only requests with this opcode, with their replies.
     pub opcode: Option<Opcode>,
+    /// Only requests whose reply is of this kind, and responses alone of this kind.
+    pub kind: Option<ReplyKind>,
     /// Only what is reported of connections with such a client.
     pub client: Option<EndFilter>,
     /// Only what is reported of connections with such a node.
@@ -66,6 +80,7 @@ impl ExchangeFilter {
         slow: None,
         errors: false,
         opcode: None,
+        kind: None,
         client: None,
         node: None,
         since: None,
@@ -77,7 +92,7 @@ impl ExchangeFilter {
     /// Whether what is reported of this connection is shown, where these statements are known and the capture's first packet came at this time.
     pub(crate) fn shows<A: Allocator>(
         &self,
-        known: &[Preparation<A>],
+        known: &Known<A>,
         first: Option<u64>,
         connection: &Connection,
         report: &Report<A>,
@@ -87,6 +102,7 @@ impl ExchangeFilter {
             && is_slow(self.slow, report)
             && (!self.errors || is_trouble(report))
             && is_asking(self.opcode, report)
+            && is_replied(self.kind, report)
             && self.is_within(first, begun(report))
             && is_saying(&self.statement, known, report)
     }
@@ -220,6 +236,53 @@ fn has_opcode(opcode: Opcode, frame: &Frame) -> bool {
     frame.header.opcode.number() == opcode.number()
 }
 
+/// Whether the reply is of the kind that is asked for.
+fn is_replied<A: Allocator>(asked: Option<ReplyKind>, report: &Report<A>) -> bool {
+    match asked {
+        Some(kind) => reported_replied(kind, report),
+        None => true,
+    }
+}
+
+fn reported_replied<A: Allocator>(kind: ReplyKind, report: &Report<A>) -> bool {
+    match report {
+        Report::Messages { paired, .. } => replied_by(kind, paired),
+        Report::Unread { .. } => false,
+    }
+}
+
+fn replied_by<A: Allocator>(kind: ReplyKind, exchange: &Paired<Kept<A>>) -> bool {
+    match exchange {
+        Paired::Exchange { response, .. } => has_kind(kind, response),
+        Paired::Unasked { response } => has_kind(kind, response),
+        Paired::Event { event } => has_kind(kind, event),
+        Paired::Unanswered { .. } => false,
+    }
+}
+
+fn has_kind<A: Allocator>(kind: ReplyKind, response: &Message<Kept<A>>) -> bool {
+    let reply = reply_of(&response.frame.header, response.kept.front());
+    match kind {
+        ReplyKind::Result(number) => is_result_of(number, reply),
+        ReplyKind::Error(code) => is_error_with(code, reply),
+        ReplyKind::Response(opcode) => has_opcode(opcode, &response.frame),
+    }
+}
+
+fn is_result_of(number: u32, reply: Reply) -> bool {
+    match reply {
+        Reply::Result(kind) => kind == number,
+        Reply::Error(_) | Reply::Other(_) => false,
+    }
+}
+
+fn is_error_with(code: u32, reply: Reply) -> bool {
+    match reply {
+        Reply::Error(own) => own == code,
+        Reply::Result(_) | Reply::Other(_) => false,
+    }
+}
+
 /// When the first byte of what is reported came.
 fn begun<A: Allocator>(report: &Report<A>) -> Option<u64> {
     match report {
@@ -263,7 +326,7 @@ fn is_at_most(most: u64, time: Option<Span>) -> bool {
 /// Whether the text of a request's statement has the part that is asked for.
 fn is_saying<A: Allocator>(
     asked: &Option<StatementPart>,
-    known: &[Preparation<A>],
+    known: &Known<A>,
     report: &Report<A>,
 ) -> bool {
     match asked {
@@ -272,18 +335,14 @@ fn is_saying<A: Allocator>(
     }
 }
 
-fn reported_saying<A: Allocator>(known: &[Preparation<A>], part: &[u8], report: &Report<A>) -> bool {
+fn reported_saying<A: Allocator>(known: &Known<A>, part: &[u8], report: &Report<A>) -> bool {
     match report {
         Report::Messages { paired, .. } => paired_says(known, part, paired),
         Report::Unread { .. } => false,
     }
 }
 
-fn paired_says<A: Allocator>(
-    known: &[Preparation<A>],
-    part: &[u8],
-    exchange: &Paired<Kept<A>>,
-) -> bool {
+fn paired_says<A: Allocator>(known: &Known<A>, part: &[u8], exchange: &Paired<Kept<A>>) -> bool {
     match exchange {
         Paired::Exchange { request, .. } => request_says(known, part, request),
         Paired::Unanswered { request } => request_says(known, part, request),
@@ -291,11 +350,7 @@ fn paired_says<A: Allocator>(
     }
 }
 
-fn request_says<A: Allocator>(
-    known: &[Preparation<A>],
-    part: &[u8],
-    request: &Message<Kept<A>>,
-) -> bool {
+fn request_says<A: Allocator>(known: &Known<A>, part: &[u8], request: &Message<Kept<A>>) -> bool {
     let statement = statement_of(&request.frame.header, request.kept.front());
     says(part, named(known, statement))
 }

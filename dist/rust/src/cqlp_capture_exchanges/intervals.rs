@@ -12,7 +12,7 @@ use crate::cqlp_text::{Buffered, TextWriter};
 use crate::kit_std::alloc::Allocator;
 
 /// What came of the request of a report, if it has one.
-fn outcome_in<B: Allocator>(report: &Report<B>) -> Option<Outcome> {
+pub(crate) fn outcome_in<B: Allocator>(report: &Report<B>) -> Option<Outcome> {
     match report {
         Report::Messages { paired, .. } => outcome_of(paired),
         Report::Unread { .. } => None,

@@ -1,76 +1,93 @@
 // Written by dist/erase from crates/cqlp_capture_exchanges/src/lines.rt.
 //! The line of what is reported of a request, a response, or both.
 
+use crate::cqlp_capture_exchanges::bound::put_values_if;
+use crate::cqlp_capture_exchanges::connection::Connection;
+use crate::cqlp_capture_exchanges::details_line::put_numbers;
+use crate::cqlp_capture_exchanges::end::put_end;
+use crate::cqlp_capture_exchanges::error_details::error_details;
+use crate::cqlp_capture_exchanges::form::{LineStyle, ValuesShown};
+use crate::cqlp_capture_exchanges::level::put_consistency;
 use crate::cqlp_capture_exchanges::member::{Member, Value, put_members};
-use crate::cqlp_capture_exchanges::prepared::{Preparation, named};
-use crate::cqlp_capture_exchanges::reply::{Reply, consistency_name, error_name, kind_name, message_of, reply_of};
+use crate::cqlp_capture_exchanges::prepared::{Known, named};
+use crate::cqlp_capture_exchanges::reply::{Reply, error_name, kind_name, message_of, reply_of};
 use crate::cqlp_capture_exchanges::report::{ConnectionEnd, Report};
 use crate::cqlp_capture_exchanges::span::{Unit, is_whole, put_time, time_between, took};
 use crate::cqlp_capture_exchanges::statement::{Statement, has, statement_of, statements_of};
+use crate::cqlp_capture_exchanges::utc::put_utc;
 use crate::cqlp_capture_summary::put_shown_text;
 use crate::cqlp_grammar::SinkFault;
 use crate::cqlp_note::{Header, Target};
-use crate::cqlp_observer::{Frame, Kept, Message, Opening, Paired};
+use crate::cqlp_observer::{Facts, Frame, Kept, Message, Opening, Paired};
+use crate::cqlp_tcp_connections::Ends;
 use crate::cqlp_text::{Buffered, Pen, TextWriter, opcode_name};
 use crate::kit_std::alloc::Allocator;
 
-/// Takes the line of a report of the connection with this number, in a capture whose first packet came at this time, and passes it on.
+/// Takes the line of a report of this connection in this style, in a capture whose first packet came at this time, and passes it on.
 pub(crate) fn put_line<W: Target, A: Allocator, B: Allocator>(
     writer: &mut TextWriter<Buffered<W, A>>,
-    known: &[Preparation<B>],
+    known: &Known<B>,
+    style: LineStyle,
     first: Option<u64>,
-    number: u64,
+    connection: &Connection,
     report: &Report<B>,
 ) -> Result<(), SinkFault> {
-    put_report(writer, known, first, number, report)?;
+    put_report(writer, known, style, first, connection, report)?;
     writer.pass_on()
 }
 
 /// Takes the line of a report.
 fn put_report<P: Pen, A: Allocator>(
     writer: &mut TextWriter<P>,
-    known: &[Preparation<A>],
+    known: &Known<A>,
+    style: LineStyle,
     first: Option<u64>,
-    number: u64,
+    connection: &Connection,
     report: &Report<A>,
 ) -> Result<(), SinkFault> {
     match report {
-        Report::Messages { paired, end } => put_paired(writer, known, first, number, *end, paired),
-        Report::Unread { time, opening } => put_unread(writer, first, number, *time, *opening),
+        Report::Messages { paired, end } => put_paired(
+            writer, known, style, first, connection, *end, paired,
+        ),
+        Report::Unread { time, opening } => put_unread(
+            writer, style, first, connection, *time, *opening,
+        ),
     }
 }
 
 /// Takes the line of messages, whose connection ended so where that is why they are reported.
 fn put_paired<P: Pen, A: Allocator>(
     writer: &mut TextWriter<P>,
-    known: &[Preparation<A>],
+    known: &Known<A>,
+    style: LineStyle,
     first: Option<u64>,
-    number: u64,
+    connection: &Connection,
     end: Option<ConnectionEnd>,
     exchange: &Paired<Kept<A>>,
 ) -> Result<(), SinkFault> {
     match exchange {
         Paired::Exchange { request, response } => {
-            put_exchange(writer, known, first, number, request, response)
+            put_exchange(writer, known, style, first, connection, request, response)
         }
         Paired::Unanswered { request } => {
-            put_unanswered(writer, known, first, number, end, request)
+            put_unanswered(writer, known, style, first, connection, end, request)
         }
-        Paired::Unasked { response } => put_unasked(writer, first, number, response),
-        Paired::Event { event } => put_event(writer, first, number, event),
+        Paired::Unasked { response } => put_unasked(writer, style, first, connection, response),
+        Paired::Event { event } => put_event(writer, style, first, connection, event),
     }
 }
 
 fn put_exchange<P: Pen, A: Allocator>(
     writer: &mut TextWriter<P>,
-    known: &[Preparation<A>],
+    known: &Known<A>,
+    style: LineStyle,
     first: Option<u64>,
-    number: u64,
+    connection: &Connection,
     request: &Message<Kept<A>>,
     response: &Message<Kept<A>>,
 ) -> Result<(), SinkFault> {
-    put_place(writer, first, number, &request.frame)?;
-    put_request(writer, known, request)?;
+    put_place(writer, style, first, connection, &request.frame)?;
+    put_request(writer, known, style.values, request)?;
     writer.put(b" -> ")?;
     put_response(writer, response)?;
     put_took(writer, &request.frame, &response.frame)
@@ -78,14 +95,15 @@ fn put_exchange<P: Pen, A: Allocator>(
 
 fn put_unanswered<P: Pen, A: Allocator>(
     writer: &mut TextWriter<P>,
-    known: &[Preparation<A>],
+    known: &Known<A>,
+    style: LineStyle,
     first: Option<u64>,
-    number: u64,
+    connection: &Connection,
     end: Option<ConnectionEnd>,
     request: &Message<Kept<A>>,
 ) -> Result<(), SinkFault> {
-    put_place(writer, first, number, &request.frame)?;
-    put_request(writer, known, request)?;
+    put_place(writer, style, first, connection, &request.frame)?;
+    put_request(writer, known, style.values, request)?;
     writer.put(b" -> nothing")?;
     writer.put_str(end_text(end))?;
     writer.put(b"\n")
@@ -103,11 +121,12 @@ fn end_text(end: Option<ConnectionEnd>) -> &'static str {
 
 fn put_unasked<P: Pen, A: Allocator>(
     writer: &mut TextWriter<P>,
+    style: LineStyle,
     first: Option<u64>,
-    number: u64,
+    connection: &Connection,
     response: &Message<Kept<A>>,
 ) -> Result<(), SinkFault> {
-    put_place(writer, first, number, &response.frame)?;
+    put_place(writer, style, first, connection, &response.frame)?;
     writer.put(b"nothing -> ")?;
     put_response(writer, response)?;
     writer.put(b"\n")
@@ -115,11 +134,12 @@ fn put_unasked<P: Pen, A: Allocator>(
 
 fn put_event<P: Pen, A: Allocator>(
     writer: &mut TextWriter<P>,
+    style: LineStyle,
     first: Option<u64>,
-    number: u64,
+    connection: &Connection,
     event: &Message<Kept<A>>,
 ) -> Result<(), SinkFault> {
-    put_place(writer, first, number, &event.frame)?;
+    put_place(writer, style, first, connection, &event.frame)?;
     put_response(writer, event)?;
     writer.put(b"\n")
 }
@@ -127,14 +147,16 @@ fn put_event<P: Pen, A: Allocator>(
 /// Takes the line of a connection that begins with no frames of version 4.
 fn put_unread<P: Pen>(
     writer: &mut TextWriter<P>,
+    style: LineStyle,
     first: Option<u64>,
-    number: u64,
+    connection: &Connection,
     time: Option<u64>,
     opening: Opening,
 ) -> Result<(), SinkFault> {
-    put_time(writer, Unit::Second, time_between(first, time))?;
+    put_begun(writer, style.is_utc, first, time)?;
     writer.put(b" ")?;
-    writer.put_number(number)?;
+    writer.put_number(connection.number)?;
+    put_ends(writer, style.has_ends, &connection.ends)?;
     writer.put(b" unread ")?;
     put_opening(writer, opening)?;
     writer.put(b"\n")
@@ -159,17 +181,52 @@ fn put_other_version<P: Pen>(writer: &mut TextWriter<P>, version: u8) -> Result<
 /// Takes when a frame began, and where.
 fn put_place<P: Pen>(
     writer: &mut TextWriter<P>,
+    style: LineStyle,
     first: Option<u64>,
-    number: u64,
+    connection: &Connection,
     frame: &Frame,
 ) -> Result<(), SinkFault> {
-    let since = time_between(first, frame.begun);
-    put_time(writer, Unit::Second, since)?;
+    put_begun(writer, style.is_utc, first, frame.begun)?;
     writer.put(b" ")?;
-    writer.put_number(number)?;
+    writer.put_number(connection.number)?;
     writer.put(b":")?;
     put_stream(writer, &frame.header)?;
+    put_ends(writer, style.has_ends, &connection.ends)?;
     writer.put(b" ")
+}
+
+/// Takes when something began, in a capture whose first packet came at this time.
+fn put_begun<P: Pen>(
+    writer: &mut TextWriter<P>,
+    is_utc: bool,
+    first: Option<u64>,
+    time: Option<u64>,
+) -> Result<(), SinkFault> {
+    if is_utc {
+        put_utc(writer, time)
+    } else {
+        put_time(writer, Unit::Second, time_between(first, time))
+    }
+}
+
+/// Takes the ends of a connection, where lines have them.
+fn put_ends<P: Pen>(
+    writer: &mut TextWriter<P>,
+    has_ends: bool,
+    ends: &Ends,
+) -> Result<(), SinkFault> {
+    if has_ends {
+        put_both_ends(writer, ends)
+    } else {
+        Ok(())
+    }
+}
+
+fn put_both_ends<P: Pen>(writer: &mut TextWriter<P>, ends: &Ends) -> Result<(), SinkFault> {
+    writer.put(b" ")?;
+    put_end(writer, ends.client)?;
+    writer.put(b" ")?;
+    put_end(writer, ends.node)
 }
 
 /// Takes a stream id.
@@ -191,7 +248,8 @@ fn put_took<P: Pen>(
 
 fn put_request<P: Pen, A: Allocator>(
     writer: &mut TextWriter<P>,
-    known: &[Preparation<A>],
+    known: &Known<A>,
+    shown: ValuesShown,
     request: &Message<Kept<A>>,
 ) -> Result<(), SinkFault> {
     let front = request.kept.front();
@@ -203,7 +261,8 @@ fn put_request<P: Pen, A: Allocator>(
     put_count(writer, count)?;
     put_statement(writer, &statement)?;
     writer.put_str(given_up_mark(request.kept.is_text_dropped()))?;
-    put_page_size(writer, facts.page_size)?;
+    put_values_if(writer, known, shown, request)?;
+    put_paging(writer, &facts)?;
     put_frame(writer, &request.frame)
 }
 
@@ -212,40 +271,14 @@ fn put_response<P: Pen, A: Allocator>(
     response: &Message<Kept<A>>,
 ) -> Result<(), SinkFault> {
     let reply = reply_of(&response.frame.header, response.kept.front());
-    let message = message_of(reply, response.kept.front());
     let facts = response.kept.facts();
     put_reply(writer, reply)?;
-    put_counts(writer, facts.rows, facts.columns)?;
-    put_statement(writer, &message)?;
+    put_page_counts(writer, &facts)?;
+    put_message(writer, reply, response.kept.front())?;
     writer.put_str(given_up_mark(response.kept.is_text_dropped()))?;
     put_warnings(writer, facts.warnings)?;
     put_tracing(writer, facts.trace_id)?;
     put_frame(writer, &response.frame)
-}
-
-/// Takes a consistency level, after a space.
-fn put_consistency<P: Pen>(writer: &mut TextWriter<P>, level: Option<u16>) -> Result<(), SinkFault> {
-    match level {
-        Some(level) => put_level(writer, level),
-        None => writer.put(b""),
-    }
-}
-
-fn put_level<P: Pen>(writer: &mut TextWriter<P>, level: u16) -> Result<(), SinkFault> {
-    writer.put(b" ")?;
-    put_short_name(writer, consistency_name(level), level)
-}
-
-/// Takes a name, or where there is none the number's two bytes.
-fn put_short_name<P: Pen>(
-    writer: &mut TextWriter<P>,
-    name: Option<&'static str>,
-    number: u16,
-) -> Result<(), SinkFault> {
-    match name {
-        Some(name) => writer.put_str(name),
-        None => writer.put_hex_text(&number.to_be_bytes()),
-    }
 }
 
 /// Takes how many statements a BATCH has.
@@ -261,11 +294,39 @@ fn put_known_count<P: Pen>(writer: &mut TextWriter<P>, count: u16) -> Result<(),
     writer.put_number(u64::from(count))
 }
 
+/// Takes how many rows a page is to have, and whether it is one after the first.
+fn put_paging<P: Pen>(writer: &mut TextWriter<P>, facts: &Facts) -> Result<(), SinkFault> {
+    put_page_size(writer, facts.page_size)?;
+    writer.put_str(next_mark(facts.has_paging_state))
+}
+
+fn next_mark(has_paging_state: Option<bool>) -> &'static str {
+    match has_paging_state {
+        Some(true) => " next",
+        Some(false) => "",
+        None => "",
+    }
+}
+
 /// Takes how many rows a page is to have.
 fn put_page_size<P: Pen>(writer: &mut TextWriter<P>, size: Option<i32>) -> Result<(), SinkFault> {
     match size {
         Some(size) => put_members(writer, &[Member(" page ", Value::Signed(size))]),
         None => writer.put(b""),
+    }
+}
+
+/// Takes how many rows and columns a result has, and whether more pages follow.
+fn put_page_counts<P: Pen>(writer: &mut TextWriter<P>, facts: &Facts) -> Result<(), SinkFault> {
+    put_counts(writer, facts.rows, facts.columns)?;
+    writer.put_str(pages_mark(facts.has_more_pages))
+}
+
+fn pages_mark(has_more_pages: Option<bool>) -> &'static str {
+    match has_more_pages {
+        Some(true) => " more",
+        Some(false) => "",
+        None => "",
     }
 }
 
@@ -285,6 +346,31 @@ fn put_counts<P: Pen>(
         ),
         _ => writer.put(b""),
     }
+}
+
+/// Takes the message of an ERROR, and how many nodes it counts.
+fn put_message<P: Pen>(
+    writer: &mut TextWriter<P>,
+    reply: Reply,
+    front: &[u8],
+) -> Result<(), SinkFault> {
+    match reply {
+        Reply::Error(code) => put_error_message(writer, code, front),
+        Reply::Result(_) => writer.put(b""),
+        Reply::Other(_) => writer.put(b""),
+    }
+}
+
+fn put_error_message<P: Pen>(
+    writer: &mut TextWriter<P>,
+    code: u32,
+    front: &[u8],
+) -> Result<(), SinkFault> {
+    let reply = Reply::Error(code);
+    let message = message_of(reply, front);
+    let details = error_details(reply, front);
+    put_statement(writer, &message)?;
+    put_numbers(writer, &details)
 }
 
 /// Takes how many warnings a response has.

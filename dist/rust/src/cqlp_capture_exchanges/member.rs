@@ -81,6 +81,30 @@ pub(crate) fn uuid_or_null(id: Option<[u8; 16]>) -> Value<'static> {
     }
 }
 
+/// Whether something is so, where that is known.
+pub(crate) fn flag_or_null(flag: Option<bool>) -> Value<'static> {
+    match flag {
+        Some(flag) => Value::Flag(flag),
+        None => Value::Null,
+    }
+}
+
+/// A text, where it is known.
+pub(crate) fn text_or_null<'a>(text: Option<&'a str>) -> Value<'a> {
+    match text {
+        Some(text) => Value::Text(text),
+        None => Value::Null,
+    }
+}
+
+/// Bytes, where they are known.
+pub(crate) fn hex_or_null<'a>(bytes: Option<&'a [u8]>) -> Value<'a> {
+    match bytes {
+        Some(bytes) => Value::Hex(bytes),
+        None => Value::Null,
+    }
+}
+
 /// A consistency level, where it is known.
 pub(crate) fn consistency_or_null(level: Option<u16>) -> Value<'static> {
     match level {

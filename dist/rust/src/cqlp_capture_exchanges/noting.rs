@@ -6,11 +6,12 @@ use crate::cqlp_capture_exchanges::batch_name::{MOST, batch_name};
 use crate::cqlp_capture_exchanges::connection::Connection;
 use crate::cqlp_capture_exchanges::filter::is_failure;
 use crate::cqlp_capture_exchanges::form::ExchangeForm;
+use crate::cqlp_capture_exchanges::histogram::note_by_time;
 use crate::cqlp_capture_exchanges::intervals::note_in_interval;
 use crate::cqlp_capture_exchanges::label::Label;
 use crate::cqlp_capture_exchanges::naming::Naming;
 use crate::cqlp_capture_exchanges::outcome::Outcome;
-use crate::cqlp_capture_exchanges::prepared::{Preparation, named};
+use crate::cqlp_capture_exchanges::prepared::{Known, named};
 use crate::cqlp_capture_exchanges::reply::reply_of;
 use crate::cqlp_capture_exchanges::report::Report;
 use crate::cqlp_capture_exchanges::span::{Span, took};
@@ -27,17 +28,18 @@ use crate::kit_std::alloc::Allocator;
 pub(crate) fn note<A: Allocator, B: Allocator>(
     summary: &mut Summary<A>,
     form: ExchangeForm,
-    known: &[Preparation<B>],
+    known: &Known<B>,
     connection: &Connection,
     report: &Report<B>,
 )
 {
     match form {
-        ExchangeForm::Lines => {}
-        ExchangeForm::Json => {}
+        ExchangeForm::Lines(_) => {}
+        ExchangeForm::Json(_) => {}
         ExchangeForm::Summary(by) => note_report(summary, by, known, connection, report),
         ExchangeForm::SummaryJson(by) => note_report(summary, by, known, connection, report),
         ExchangeForm::Intervals(seconds) => note_in_interval(summary, seconds, report),
+        ExchangeForm::Histogram => note_by_time(summary, report),
     }
 }
 
@@ -45,7 +47,7 @@ pub(crate) fn note<A: Allocator, B: Allocator>(
 fn note_report<A: Allocator, B: Allocator>(
     summary: &mut Summary<A>,
     by: SummaryBy,
-    known: &[Preparation<B>],
+    known: &Known<B>,
     connection: &Connection,
     report: &Report<B>,
 )
@@ -59,7 +61,7 @@ fn note_report<A: Allocator, B: Allocator>(
 fn note_paired<A: Allocator, B: Allocator>(
     summary: &mut Summary<A>,
     by: SummaryBy,
-    known: &[Preparation<B>],
+    known: &Known<B>,
     connection: &Connection,
     paired: &Paired<Kept<B>>,
 )
@@ -108,7 +110,7 @@ pub(crate) fn unanswered<B: Allocator>(request: &Message<Kept<B>>) -> Outcome {
 fn note_by<A: Allocator, B: Allocator>(
     summary: &mut Summary<A>,
     by: SummaryBy,
-    known: &[Preparation<B>],
+    known: &Known<B>,
     connection: &Connection,
     request: &Message<Kept<B>>,
     outcome: &Outcome,
@@ -126,7 +128,7 @@ fn note_by<A: Allocator, B: Allocator>(
 /// Counts a request under the table that its statement names, or under its opcode.
 fn note_table<A: Allocator, B: Allocator>(
     summary: &mut Summary<A>,
-    known: &[Preparation<B>],
+    known: &Known<B>,
     request: &Message<Kept<B>>,
     outcome: &Outcome,
 )
@@ -170,7 +172,7 @@ fn note_attribute<A: Allocator, B: Allocator>(
 fn note_request<A: Allocator, B: Allocator>(
     summary: &mut Summary<A>,
     naming: Naming,
-    known: &[Preparation<B>],
+    known: &Known<B>,
     request: &Message<Kept<B>>,
     outcome: &Outcome,
 )

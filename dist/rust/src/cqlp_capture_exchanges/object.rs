@@ -1,12 +1,16 @@
 // Written by dist/erase from crates/cqlp_capture_exchanges/src/object.rt.
 //! The JSON object of what is reported of a request, a response, or both.
 
+use crate::cqlp_capture_exchanges::bound::put_values_members_if;
 use crate::cqlp_capture_exchanges::connection::Connection;
+use crate::cqlp_capture_exchanges::details_object::put_details;
+use crate::cqlp_capture_exchanges::error_details::error_details;
+use crate::cqlp_capture_exchanges::form::ValuesShown;
 use crate::cqlp_capture_exchanges::member::{
-    Member, Value, consistency_or_null, name_or_code, number_or_null, put_members, seconds_or_null,
-    signed_or_null, utc_or_null, uuid_or_null,
+    Member, Value, consistency_or_null, flag_or_null, name_or_code, number_or_null, put_members,
+    seconds_or_null, signed_or_null, utc_or_null, uuid_or_null,
 };
-use crate::cqlp_capture_exchanges::prepared::{Preparation, named};
+use crate::cqlp_capture_exchanges::prepared::{Known, named};
 use crate::cqlp_capture_exchanges::reply::{Reply, error_name, kind_name, message_of, reply_of};
 use crate::cqlp_capture_exchanges::report::{ConnectionEnd, Report};
 use crate::cqlp_capture_exchanges::span::{Span, is_whole, time_between, took};
@@ -21,26 +25,28 @@ use crate::kit_std::alloc::Allocator;
 /// passes it on.
 pub(crate) fn put_json_line<W: Target, A: Allocator, B: Allocator>(
     writer: &mut TextWriter<Buffered<W, A>>,
-    known: &[Preparation<B>],
+    known: &Known<B>,
+    shown: ValuesShown,
     first: Option<u64>,
     connection: &Connection,
     report: &Report<B>,
 ) -> Result<(), SinkFault> {
-    put_report(writer, known, first, connection, report)?;
+    put_report(writer, known, shown, first, connection, report)?;
     writer.pass_on()
 }
 
 /// Takes the object of a report.
 fn put_report<P: Pen, A: Allocator>(
     writer: &mut TextWriter<P>,
-    known: &[Preparation<A>],
+    known: &Known<A>,
+    shown: ValuesShown,
     first: Option<u64>,
     connection: &Connection,
     report: &Report<A>,
 ) -> Result<(), SinkFault> {
     match report {
         Report::Messages { paired, end } => put_paired(
-            writer, known, first, connection, *end, paired,
+            writer, known, shown, first, connection, *end, paired,
         ),
         Report::Unread { time, opening } => put_unread(writer, first, connection, *time, *opening),
     }
@@ -102,7 +108,8 @@ fn version_or_null(opening: Opening) -> Value<'static> {
 /// Takes the object of messages, whose connection ended so where that is why they are reported.
 fn put_paired<P: Pen, A: Allocator>(
     writer: &mut TextWriter<P>,
-    known: &[Preparation<A>],
+    known: &Known<A>,
+    shown: ValuesShown,
     first: Option<u64>,
     connection: &Connection,
     end: Option<ConnectionEnd>,
@@ -110,10 +117,10 @@ fn put_paired<P: Pen, A: Allocator>(
 ) -> Result<(), SinkFault> {
     match reported {
         Paired::Exchange { request, response } => {
-            put_exchange(writer, known, first, connection, request, response)
+            put_exchange(writer, known, shown, first, connection, request, response)
         }
         Paired::Unanswered { request } => put_unanswered(
-            writer, known, first, connection, end, request,
+            writer, known, shown, first, connection, end, request,
         ),
         Paired::Unasked { response } => put_alone(writer, "unasked", first, connection, response),
         Paired::Event { event } => put_alone(writer, "event", first, connection, event),
@@ -138,7 +145,8 @@ impl Last {
 /// Takes the object of a request with its response.
 fn put_exchange<P: Pen, A: Allocator>(
     writer: &mut TextWriter<P>,
-    known: &[Preparation<A>],
+    known: &Known<A>,
+    shown: ValuesShown,
     first: Option<u64>,
     connection: &Connection,
     request: &Message<Kept<A>>,
@@ -149,7 +157,7 @@ fn put_exchange<P: Pen, A: Allocator>(
         end: None,
     };
     put_place(writer, "exchange", first, connection, &request.frame)?;
-    put_request(writer, known, request)?;
+    put_request(writer, known, shown, request)?;
     put_response(writer, response)?;
     put_last(writer, last)?;
     writer.put(b"}\n")
@@ -158,7 +166,8 @@ fn put_exchange<P: Pen, A: Allocator>(
 /// Takes the object of a request without a response, whose connection ended so where that is why.
 fn put_unanswered<P: Pen, A: Allocator>(
     writer: &mut TextWriter<P>,
-    known: &[Preparation<A>],
+    known: &Known<A>,
+    shown: ValuesShown,
     first: Option<u64>,
     connection: &Connection,
     end: Option<ConnectionEnd>,
@@ -166,7 +175,7 @@ fn put_unanswered<P: Pen, A: Allocator>(
 ) -> Result<(), SinkFault> {
     let last = Last { time: None, end };
     put_place(writer, "unanswered", first, connection, &request.frame)?;
-    put_request(writer, known, request)?;
+    put_request(writer, known, shown, request)?;
     put_last(writer, last)?;
     writer.put(b"}\n")
 }
@@ -232,7 +241,8 @@ fn end_or_null(end: Option<ConnectionEnd>) -> Value<'static> {
 
 fn put_request<P: Pen, A: Allocator>(
     writer: &mut TextWriter<P>,
-    known: &[Preparation<A>],
+    known: &Known<A>,
+    shown: ValuesShown,
     request: &Message<Kept<A>>,
 ) -> Result<(), SinkFault> {
     let front = request.kept.front();
@@ -241,6 +251,7 @@ fn put_request<P: Pen, A: Allocator>(
     put_request_frame(writer, &request.frame)?;
     put_count(writer, count)?;
     put_statement(writer, request.kept.is_text_dropped(), &statement)?;
+    put_values_members_if(writer, known, shown, request)?;
     put_query(writer, &request.kept.facts())
 }
 
@@ -256,6 +267,10 @@ fn put_query<P: Pen>(writer: &mut TextWriter<P>, facts: &Facts) -> Result<(), Si
         &[
             Member(",\"consistency\":", consistency_or_null(facts.consistency)),
             Member(",\"page_size\":", signed_or_null(facts.page_size)),
+            Member(
+                ",\"has_paging_state\":",
+                flag_or_null(facts.has_paging_state),
+            ),
         ],
     )
 }
@@ -336,11 +351,28 @@ fn put_response<P: Pen, A: Allocator>(
     response: &Message<Kept<A>>,
 ) -> Result<(), SinkFault> {
     let reply = reply_of(&response.frame.header, response.kept.front());
-    let message = message_of(reply, response.kept.front());
     put_response_frame(writer, &response.frame)?;
     put_reply(writer, reply)?;
-    put_message(writer, response.kept.is_text_dropped(), &message)?;
+    put_error(
+        writer,
+        response.kept.is_text_dropped(),
+        reply,
+        response.kept.front(),
+    )?;
     put_result(writer, &response.kept.facts())
+}
+
+/// Takes the message of an ERROR, and what is behind it.
+fn put_error<P: Pen>(
+    writer: &mut TextWriter<P>,
+    is_given_up: bool,
+    reply: Reply,
+    front: &[u8],
+) -> Result<(), SinkFault> {
+    let message = message_of(reply, front);
+    let details = error_details(reply, front);
+    put_message(writer, is_given_up, &message)?;
+    put_details(writer, &details)
 }
 
 /// Takes the message of an ERROR.
@@ -381,6 +413,7 @@ fn put_result<P: Pen>(writer: &mut TextWriter<P>, facts: &Facts) -> Result<(), S
         &[
             Member(",\"rows\":", signed_or_null(facts.rows)),
             Member(",\"columns\":", signed_or_null(facts.columns)),
+            Member(",\"has_more_pages\":", flag_or_null(facts.has_more_pages)),
             Member(",\"warnings\":", number_or_null(facts.warnings)),
             Member(",\"tracing_id\":", uuid_or_null(facts.trace_id)),
         ],

@@ -1,15 +1,16 @@
 // Written by dist/erase from crates/cqlp_capture_exchanges/src/prepared.rt.
 //! Statements that were prepared: their texts by their ids.
 
-use crate::kit_host::prelude::{Vec};
+use crate::kit_host::prelude::{AllocGlobal, Vec};
 use crate::cqlp_capture_exchanges::reply::{Reply, reply_of};
 use crate::cqlp_capture_exchanges::statement::{Statement, short_bytes, statement_of};
 use crate::cqlp_note::Opcode;
 use crate::cqlp_observer::{Kept, Message};
-use crate::kit_std::alloc::{Allocator, Global};
+use crate::cqlp_statement_file::StatementTexts;
+use crate::kit_std::alloc::{AllocError, Allocator, Global};
 
-/// How many statements are known at most.
-pub(crate) const MOST: usize = 256;
+/// How many statements that were prepared are known at most.
+const MOST: usize = 256;
 
 /// A PREPARE, and the response that gives its statement an id.
 pub(crate) struct Preparation<A: Allocator = Global> {
@@ -47,7 +48,7 @@ pub(crate) fn after_number(front: &[u8]) -> &[u8] {
 }
 
 /// A \[short bytes\] at the front, if it is there whole.
-fn whole_id(bytes: &[u8]) -> Option<&[u8]> {
+pub(crate) fn whole_id(bytes: &[u8]) -> Option<&[u8]> {
     match short_bytes(bytes) {
         Some(Statement::Id { id, is_whole: true }) => Some(id),
         _ => None,
@@ -64,9 +65,61 @@ fn text_for<'a, A: Allocator>(known: &'a [Preparation<A>], id: &[u8]) -> Option<
     None
 }
 
+/// Statements whose texts are known.
+pub(crate) struct Known<A: Allocator = Global> {
+    /// Those that were prepared, each by the first PREPARE whose response gave its id; of too many the one goes whose id came first.
+    prepared: Vec<Preparation<A>, A>,
+    given: StatementTexts,
+}
+
+impl<A: Allocator> Known<A> {
+    /// Those that were given, with room for those that are prepared.
+    pub(crate) fn new(alloc: A, given: StatementTexts) -> Result<Self, AllocError> {
+        let prepared = Vec::with_capacity(alloc, MOST)?;
+        Ok(Known { prepared, given })
+    }
+
+    /// The first bytes of the response that gave the statement which a request asks for by its id, if that was prepared.
+    pub(crate) fn prepared_front(&self, said: Option<Statement<'_>>) -> &[u8] {
+        match said {
+            Some(Statement::Id { id, is_whole: true }) => response_for(&self.prepared, id),
+            _ => &[],
+        }
+    }
+
+    /// Whether a request is a PREPARE and its response gives its statement an id that no other PREPARE has.
+    pub(crate) fn is_news(&self, request: &Message<Kept<A>>, response: &Message<Kept<A>>) -> bool {
+        is_news(&self.prepared, request, response)
+    }
+
+    /// Puts a statement behind the others that were prepared; where there are too many, the first one goes.
+    pub(crate) fn add(&mut self, one: Preparation<A>) {
+        add_known(&mut self.prepared, one);
+    }
+
+    /// The text of the statement with this id, if it is known.
+    fn text(&self, id: &[u8]) -> Option<Statement<'_>> {
+        match text_for(&self.prepared, id) {
+            Some(text) => Some(text),
+            None => text_given(&self.given, id),
+        }
+    }
+}
+
+/// The text of the statement with this id, if it was given.
+fn text_given<'a>(given: &'a StatementTexts, id: &[u8]) -> Option<Statement<'a>> {
+    match given.get(id) {
+        Some(text) => Some(Statement::Text {
+            text: text.as_str(),
+            is_whole: text.is_whole(),
+        }),
+        None => None,
+    }
+}
+
 /// What a request asks to be done, with the text of a statement that is known in place of its id.
 pub(crate) fn named<'a, A: Allocator>(
-    known: &'a [Preparation<A>],
+    known: &'a Known<A>,
     said: Option<Statement<'a>>,
 ) -> Option<Statement<'a>> {
     match said {
@@ -75,15 +128,25 @@ pub(crate) fn named<'a, A: Allocator>(
     }
 }
 
-fn text_or_id<'a, A: Allocator>(known: &'a [Preparation<A>], id: &'a [u8]) -> Option<Statement<'a>> {
-    match text_for(known, id) {
+fn text_or_id<'a, A: Allocator>(known: &'a Known<A>, id: &'a [u8]) -> Option<Statement<'a>> {
+    match known.text(id) {
         Some(text) => Some(text),
         None => Some(Statement::Id { id, is_whole: true }),
     }
 }
 
+/// The first bytes of the response that gave the statement with this id, if it is known.
+fn response_for<'a, A: Allocator>(known: &'a [Preparation<A>], id: &[u8]) -> &'a [u8] {
+    for one in known {
+        if one.is_of(id) {
+            return one.response.kept.front();
+        }
+    }
+    &[]
+}
+
 /// Whether a request is a PREPARE and its response gives its statement an id that is not known.
-pub(crate) fn is_news<A: Allocator>(
+fn is_news<A: Allocator>(
     known: &[Preparation<A>],
     request: &Message<Kept<A>>,
     response: &Message<Kept<A>>,
@@ -104,11 +167,7 @@ fn has_id<A: Allocator>(known: &[Preparation<A>], id: &[u8]) -> bool {
 }
 
 /// Puts a statement behind the others; where there are too many, the first one goes.
-pub(crate) fn add_known<A: Allocator, B: Allocator>(
-    known: &mut Vec<Preparation<B>, A>,
-    one: Preparation<B>,
-)
-{
+fn add_known<A: Allocator>(known: &mut Vec<Preparation<A>, A>, one: Preparation<A>) {
     if known.len() >= MOST {
         let _ = known.remove(0);
     }

@@ -5,11 +5,12 @@ use crate::kit_host::prelude::{Vec};
 use crate::cqlp_capture_exchanges::connection::Connection;
 use crate::cqlp_capture_exchanges::filter::ExchangeFilter;
 use crate::cqlp_capture_exchanges::form::ExchangeForm;
+use crate::cqlp_capture_exchanges::histogram::put_histogram;
 use crate::cqlp_capture_exchanges::intervals::{put_if_over, put_interval};
 use crate::cqlp_capture_exchanges::lines::put_line;
 use crate::cqlp_capture_exchanges::noting::note;
 use crate::cqlp_capture_exchanges::object::put_json_line;
-use crate::cqlp_capture_exchanges::prepared::{Preparation, add_known, is_news};
+use crate::cqlp_capture_exchanges::prepared::{Known, Preparation};
 use crate::cqlp_capture_exchanges::report::{ConnectionEnd, Report, is_unread};
 use crate::cqlp_capture_exchanges::summary_objects::put_summary_objects;
 use crate::cqlp_capture_exchanges::sums::ExchangeSums;
@@ -27,8 +28,7 @@ pub(crate) struct Reporter<O: Target, A: Allocator = Global> {
     form: ExchangeForm,
     /// When the first packet with a segment was captured of which that is known.
     first: Option<u64>,
-    /// Statements that were prepared, each by the first PREPARE whose response gave its id; of too many the one goes whose id came first.
-    known: Vec<Preparation<A>, A>,
+    known: Known<A>,
     summary: Summary<A>,
     sums: ExchangeSums,
     writer: TextWriter<Buffered<O, A>>,
@@ -41,7 +41,7 @@ impl<O: Target, A: Allocator> Reporter<O, A> {
         form: ExchangeForm,
         out: O,
         buffer: Vec<u8, A>,
-        known: Vec<Preparation<A>, A>,
+        known: Known<A>,
         summary: Summary<A>,
     ) -> Self {
         Reporter {
@@ -171,9 +171,8 @@ impl<O: Target, A: Allocator> Reporter<O, A> {
         end: Option<ConnectionEnd>,
     )
     {
-        if is_news(&self.known, &request, &response) {
-            let one = Preparation { request, response };
-            add_known(&mut self.known, one);
+        if self.known.is_news(&request, &response) {
+            self.known.add(Preparation { request, response });
         }
     }
 }
@@ -182,18 +181,21 @@ impl<O: Target, A: Allocator> Reporter<O, A> {
 fn put_report<W: Target, A: Allocator, B: Allocator>(
     writer: &mut TextWriter<Buffered<W, A>>,
     form: ExchangeForm,
-    known: &[Preparation<B>],
+    known: &Known<B>,
     first: Option<u64>,
     summary: &Summary<A>,
     connection: &Connection,
     report: &Report<B>,
 ) -> Result<(), SinkFault> {
     match form {
-        ExchangeForm::Lines => put_line(writer, known, first, connection.number, report),
-        ExchangeForm::Json => put_json_line(writer, known, first, connection, report),
+        ExchangeForm::Lines(style) => put_line(writer, known, style, first, connection, report),
+        ExchangeForm::Json(shown) => {
+            put_json_line(writer, known, shown, first, connection, report)
+        }
         ExchangeForm::Summary(_) => Ok(()),
         ExchangeForm::SummaryJson(_) => Ok(()),
         ExchangeForm::Intervals(seconds) => put_if_over(writer, seconds, summary, report),
+        ExchangeForm::Histogram => Ok(()),
     }
 }
 
@@ -204,11 +206,12 @@ fn put_ending<W: Target, A: Allocator>(
     summary: &Summary<A>,
 ) -> Result<(), SinkFault> {
     match form {
-        ExchangeForm::Lines => Ok(()),
-        ExchangeForm::Json => Ok(()),
+        ExchangeForm::Lines(_) => Ok(()),
+        ExchangeForm::Json(_) => Ok(()),
         ExchangeForm::Summary(by) => put_summary(writer, by.heading(), summary),
         ExchangeForm::SummaryJson(by) => put_objects(writer, by.heading(), summary),
         ExchangeForm::Intervals(seconds) => put_interval(writer, seconds, summary),
+        ExchangeForm::Histogram => put_histogram(writer, summary),
     }
 }
 

@@ -96,7 +96,8 @@ pub(crate) fn sign(is_before: bool) -> &'static str {
     if is_before { "-" } else { "" }
 }
 
-fn put_fraction<P: Pen>(
+/// Takes nanoseconds below a unit of time, whose microseconds are so many digits.
+pub(crate) fn put_fraction<P: Pen>(
     writer: &mut TextWriter<P>,
     places: usize,
     nanoseconds: u64,

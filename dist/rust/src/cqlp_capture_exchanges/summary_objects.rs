@@ -9,7 +9,7 @@ use crate::cqlp_text::{Pen, TextWriter};
 use crate::kit_std::alloc::Allocator;
 
 /// Writes an object for each name that is distinguished, in the order of the table, and one for all others if there are any. `by` is what they are names of.
-pub(crate) fn put_summary_objects<P: Pen, A: Allocator>(
+pub fn put_summary_objects<P: Pen, A: Allocator>(
     writer: &mut TextWriter<P>,
     by: &str,
     summary: &Summary<A>,

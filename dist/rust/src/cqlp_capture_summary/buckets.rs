@@ -16,3 +16,13 @@ pub(crate) fn greatest_in(bucket: usize) -> u64 {
     let width = 1u64 << digits;
     (bucket - 32 * digits) as u64 * width + (width - 1)
 }
+
+/// The bucket of which this is the greatest time, in nanoseconds, if there is one.
+pub(crate) fn bucket_up_to(time: u64) -> Option<usize> {
+    let bucket = bucket_of(time);
+    if greatest_in(bucket) == time {
+        Some(bucket)
+    } else {
+        None
+    }
+}

@@ -2,6 +2,7 @@
 //! The statements of a capture.
 
 use crate::kit_host::prelude::{AllocGlobal, Clone, ToCopy, Vec};
+use crate::cqlp_capture_summary::histogram::put_histogram;
 use crate::cqlp_capture_summary::intervals::{add_in_interval, is_over, put_interval};
 use crate::cqlp_capture_summary::lines::put_summary;
 use crate::cqlp_capture_summary::name::Name;
@@ -9,7 +10,7 @@ use crate::cqlp_capture_summary::occurrence::Occurrence;
 use crate::cqlp_capture_summary::recent::{Recent, fingerprint_in};
 use crate::cqlp_capture_summary::row::Row;
 use crate::cqlp_capture_summary::tally::{Figures, Tally, time_of};
-use crate::cqlp_capture_summary::weights::{add_weight_at, lightest};
+use crate::cqlp_capture_summary::weights::{add_weight_at, lightest, raise_weight_at};
 use crate::cqlp_grammar::SinkFault;
 use crate::cqlp_text::{Pen, TextWriter};
 use crate::kit_std::alloc::{AllocError, Allocator, Global};
@@ -153,6 +154,60 @@ impl<A: Allocator> Summary<A> {
         self.names[at] = name;
     }
 
+    /// Counts what was counted of a name elsewhere: at its place, at a free one, or at that of the lightest, whose counts go to the others. There it took at
+    /// most so many nanoseconds, and before at most `before` where it has no place yet. Answers its place.
+    pub fn add(
+        &mut self,
+        name: &[u8],
+        is_whole: bool,
+        counts: &Tally,
+        most: u64,
+        before: u64,
+    ) -> Option<usize> {
+        let name = Name::new(name, is_whole);
+        let before = if self.find(&name).is_some() {
+            0
+        } else {
+            before
+        };
+        let place = self.place_for(name);
+        self.add_counts(place, counts, most, before);
+        place
+    }
+
+    fn add_counts(&mut self, place: Option<usize>, counts: &Tally, most: u64, before: u64) {
+        match place {
+            Some(place) => self.add_counts_at(place, counts, most, before),
+            None => self.add_others(counts),
+        }
+    }
+
+    fn add_counts_at(&mut self, place: usize, counts: &Tally, most: u64, before: u64) {
+        raise_weight_at(&mut self.weights, place, before, most);
+        self.tallies[place].merge(counts);
+    }
+
+    /// Counts what was counted elsewhere of all other names.
+    pub fn add_others(&mut self, counts: &Tally) {
+        self.others[0].merge(counts);
+    }
+
+    /// The most nanoseconds that a statement may have taken that gave up its place; 0 where there are free ones.
+    pub fn given_up(&self) -> u64 {
+        if self.names.len() < self.statements {
+            return 0;
+        }
+        match lightest(&self.weights) {
+            Some(at) => self.weights[at],
+            None => 0,
+        }
+    }
+
+    /// The statement at a place may have taken so many nanoseconds more.
+    pub fn add_weight(&mut self, place: usize, more: u64) {
+        add_weight_at(&mut self.weights, place, more);
+    }
+
     /// Whether the interval of so many seconds in which the others are counted is over, before a request that was over at this time. Where nothing is counted
     /// it is.
     pub fn is_over(&self, seconds: u32, at: Option<u64>) -> bool {
@@ -178,6 +233,11 @@ impl<A: Allocator> Summary<A> {
         seconds: u32,
     ) -> Result<(), SinkFault> {
         put_interval(writer, seconds, &self.others[0])
+    }
+
+    /// Writes how many of the others took how long, in ranges of time that double.
+    pub fn put_histogram<P: Pen>(&self, writer: &mut TextWriter<P>) -> Result<(), SinkFault> {
+        put_histogram(writer, &self.others[0])
     }
 
     /// How many statements are in the table.

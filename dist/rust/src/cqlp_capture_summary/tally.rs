@@ -1,11 +1,11 @@
 // Written by dist/erase from crates/cqlp_capture_summary/src/tally.rt.
 //! What is counted of a statement.
 
-use crate::cqlp_capture_summary::buckets::{BUCKETS, bucket_of, greatest_in};
+use crate::cqlp_capture_summary::buckets::{BUCKETS, bucket_of, bucket_up_to, greatest_in};
 use crate::cqlp_capture_summary::occurrence::Occurrence;
 
 /// What is counted of a statement. A number stays at 2^64 - 1 once it is there.
-pub(crate) struct Tally {
+pub struct Tally {
     count: u64,
     errors: u64,
     unanswered: u64,
@@ -60,7 +60,7 @@ pub struct Times {
 
 impl Tally {
     /// Nothing is counted.
-    pub(crate) fn new() -> Self {
+    pub fn new() -> Self {
         Tally {
             count: 0,
             errors: 0,
@@ -79,7 +79,7 @@ impl Tally {
     }
 
     /// Nanoseconds in sum.
-    pub(crate) fn time(&self) -> u64 {
+    pub fn time(&self) -> u64 {
         self.time
     }
 
@@ -87,7 +87,22 @@ impl Tally {
         &self.buckets
     }
 
-    pub(crate) fn count(&self) -> u64 {
+    pub(crate) fn unanswered(&self) -> u64 {
+        self.unanswered
+    }
+
+    /// Of how many it is known how long they took.
+    pub(crate) fn timed(&self) -> u64 {
+        self.timed
+    }
+
+    /// Nanoseconds that the longest of them took.
+    pub(crate) fn greatest(&self) -> u64 {
+        self.greatest
+    }
+
+    /// How often it was asked for.
+    pub fn count(&self) -> u64 {
         self.count
     }
 
@@ -143,6 +158,33 @@ impl Tally {
         self.end = self.end.max(bucket + 1);
     }
 
+    /// Has what is counted elsewhere, but for the times, whose greatest alone it takes.
+    pub fn set_figures(&mut self, figures: &Figures) {
+        self.count = figures.count;
+        self.errors = figures.errors;
+        self.unanswered = figures.unanswered;
+        self.rows = figures.rows;
+        self.bytes = figures.bytes;
+        self.first = figures.first;
+        self.last = figures.last;
+        self.time = figures.time;
+        self.greatest = greatest_of(figures.times);
+    }
+
+    /// Counts so many times of the bucket of which this is the greatest one, if there is such a bucket, which it answers.
+    pub fn add_times(&mut self, greatest: u64, count: u64) -> Option<usize> {
+        let bucket = bucket_up_to(greatest)?;
+        self.add_in(bucket, count);
+        Some(bucket)
+    }
+
+    fn add_in(&mut self, bucket: usize, count: u64) {
+        self.timed = self.timed.saturating_add(count);
+        self.buckets[bucket] = self.buckets[bucket].saturating_add(count);
+        self.from = self.from.min(bucket);
+        self.end = self.end.max(bucket + 1);
+    }
+
     /// Counts what another one counted.
     pub(crate) fn merge(&mut self, more: &Tally) {
         self.count = self.count.saturating_add(more.count);
@@ -161,7 +203,7 @@ impl Tally {
     }
 
     /// Counts nothing any more.
-    pub(crate) fn clear(&mut self) {
+    pub fn clear(&mut self) {
         self.count = 0;
         self.errors = 0;
         self.unanswered = 0;
@@ -248,12 +290,20 @@ pub(crate) fn time_of(took: Option<u64>) -> u64 {
     took.unwrap_or(0)
 }
 
+/// The greatest of some times, where one is known.
+fn greatest_of(times: Option<Times>) -> u64 {
+    match times {
+        Some(times) => times.greatest,
+        None => 0,
+    }
+}
+
 fn error_count(is_error: bool) -> u64 {
     if is_error { 1 } else { 0 }
 }
 
 /// The bucket of the time at a rank, counted from 1.
-fn bucket_at(buckets: &[u64], rank: u64) -> Option<usize> {
+pub(crate) fn bucket_at(buckets: &[u64], rank: u64) -> Option<usize> {
     let mut left = rank;
     for (bucket, count) in buckets.iter().enumerate() {
         if left <= *count {

@@ -20,3 +20,10 @@ pub(crate) fn add_weight_at(weights: &mut [u64], at: usize, took: u64) {
         weights[at] = weights[at].saturating_add(took);
     }
 }
+
+/// Has the weight at a place be at least this before, and adds nanoseconds to it.
+pub(crate) fn raise_weight_at(weights: &mut [u64], at: usize, before: u64, most: u64) {
+    if at < weights.len() {
+        weights[at] = weights[at].max(before).saturating_add(most);
+    }
+}

@@ -44,7 +44,7 @@ impl QueryField {
     pub(crate) fn following(&self, bytes: &[u8]) -> Next {
         match *self {
             QueryField::Consistency => consistency_following(bytes),
-            QueryField::Flags => Next::at(flags_following(byte(bytes).into())),
+            QueryField::Flags => query_flags_following(bytes),
             QueryField::ValueCount(form) => Next::at(values_due(short(bytes), form)),
             QueryField::ValueName { more, form } => Next::past(
                 short(bytes).into(),
@@ -65,6 +65,16 @@ pub(crate) fn consistency_following(bytes: &[u8]) -> Next {
     )
 }
 
+/// What follows the flags, of which 08 says that there is a paging state.
+#[inline(always)]
+pub(crate) fn query_flags_following(bytes: &[u8]) -> Next {
+    let flags = byte(bytes).into();
+    Next::says(
+        Fact::HasPagingState(has(flags, 0x08)),
+        flags_following(flags),
+    )
+}
+
 /// What follows the page size.
 #[inline(always)]
 pub(crate) fn page_size_following(bytes: &[u8]) -> Next {
@@ -79,7 +89,7 @@ pub(crate) fn consistency_due() -> Due {
 
 /// What follows the flags: 01 says that there are values, 04 a page size, and 40 that values have names.
 #[inline(always)]
-pub(crate) fn flags_following(flags: u32) -> Due {
+fn flags_following(flags: u32) -> Due {
     let paged = has(flags, 0x04);
     if has(flags, 0x01) {
         let named = has(flags, 0x40);

@@ -9,8 +9,8 @@ use crate::cqlp_observer_facts::facts::Facts;
 use crate::cqlp_observer_facts::field_front::FieldFront;
 use crate::cqlp_observer_facts::numbers::{byte, int, short};
 use crate::cqlp_observer_facts::query::{
-    QueryField, ValueForm, consistency_due, consistency_following, flags_following,
-    page_size_following, past_value, values_due,
+    QueryField, ValueForm, consistency_due, consistency_following, page_size_following, past_value,
+    query_flags_following, values_due,
 };
 use crate::cqlp_observer_facts::rows::{RowsField, columns_following, page_flags_following, row_count};
 use crate::cqlp_note::{Header, Opcode};
@@ -183,9 +183,7 @@ impl FactsReader {
         match self.due {
             Due::StatementId => self.go_to(Next::past(short(bytes).into(), consistency_due())),
             Due::Query(QueryField::Consistency) => self.go_to(consistency_following(bytes)),
-            Due::Query(QueryField::Flags) => self.go_to(Next::at(flags_following(byte(
-                bytes,
-            ).into()))),
+            Due::Query(QueryField::Flags) => self.go_to(query_flags_following(bytes)),
             Due::Query(QueryField::ValueCount(ValueForm { named, paged })) => {
                 self.go_to(Next::at(values_due(short(bytes), ValueForm { named, paged })))
             }

@@ -70,7 +70,11 @@ impl RowsField {
 /// What follows the flags.
 #[inline(always)]
 pub(crate) fn page_flags_following(bytes: &[u8]) -> Next {
-    Next::at(Due::Rows(RowsField::ColumnCount { flags: int(bytes) }))
+    let flags = int(bytes);
+    Next::says(
+        Fact::HasMorePages(has_more_pages(flags)),
+        Due::Rows(RowsField::ColumnCount { flags }),
+    )
 }
 
 /// What follows the number of columns.
@@ -87,10 +91,16 @@ pub(crate) fn columns_following(flags: u32, bytes: &[u8]) -> Next {
     }
 }
 
-/// The paging state, if the flag 02 says that there is one, and the columns.
+/// Whether more pages follow: the flag 02 says that there is a paging state.
+#[inline(always)]
+fn has_more_pages(flags: u32) -> bool {
+    has(flags, 0x02)
+}
+
+/// The paging state, if there is one, and the columns.
 #[inline(always)]
 fn paged_columns_due(flags: u32, columns: u32) -> Due {
-    if has(flags, 0x02) {
+    if has_more_pages(flags) {
         Due::Rows(RowsField::PagingState { flags, columns })
     } else {
         columns_due(flags, columns)

@@ -10,8 +10,12 @@ pub(crate) enum BadValue {
     Range,
     /// Standard input is a file among several.
     Input,
+    /// The paths of captures are to come from standard input, and FILE is another one.
+    Follow,
     /// No request has an opcode of this name.
     Opcode,
+    /// No reply is of a kind of this name.
+    Kind,
     /// A client is not named by an address.
     Client,
     /// A node is not named by an address.
@@ -20,8 +24,12 @@ pub(crate) enum BadValue {
     From,
     /// What is to be the latest time is none.
     To,
+    /// What lines are to have is asked of objects or a summary.
+    Lines,
     /// A summary counts by nothing of this name.
     By,
+    /// A histogram counts by something, or is JSON.
+    Histogram,
     /// A summary counts statements by their texts and by something else.
     Literal,
 }
@@ -34,9 +42,18 @@ impl BadValue {
             BadValue::Input => {
                 "invalid value '-' for '<FILE>...': it is standard input, and goes alone; a file of that name is ./-"
             }
+            BadValue::Follow => {
+                "the argument '--follow' reads the paths of captures from standard input: '<FILE>...' is then -"
+            }
             BadValue::Opcode => {
                 "invalid value for '--opcode <NAME>': it is none of STARTUP, OPTIONS, QUERY, PREPARE, EXECUTE, BATCH, REGISTER and \
                  AUTH_RESPONSE"
+            }
+            BadValue::Kind => {
+                "invalid value for '--kind <NAME>': it is none of VOID, ROWS, SET_KEYSPACE, PREPARED, SCHEMA_CHANGE, RESULT, ERROR, READY, AUTHENTICATE, \
+                 SUPPORTED, EVENT, AUTH_CHALLENGE, AUTH_SUCCESS, ServerError, ProtocolError, AuthenticationError, Unavailable, Overloaded, IsBootstrapping, \
+                 TruncateError, WriteTimeout, ReadTimeout, ReadFailure, FunctionFailure, WriteFailure, SyntaxError, Unauthorized, Invalid, ConfigError, \
+                 AlreadyExists and Unprepared"
             }
             BadValue::Client => {
                 "invalid value for '--client <ADDRESS>': it is no ADDRESS, and no ADDRESS:PORT or [ADDRESS]:PORT"
@@ -52,8 +69,15 @@ impl BadValue {
                 "invalid value for '--to <TIME>': it is no number of seconds, and no time in UTC such as 2026-11-29T10:15:30Z, with up to nine digits after \
                  the point"
             }
+            BadValue::Lines => {
+                "the arguments '--utc' and '--ends' cannot be used with '--json', whose objects have both, or with '--summary', which has no lines of requests"
+            }
             BadValue::By => {
                 "invalid value for '--by <WHAT>': it is none of statement, table, client, node, opcode and error"
+            }
+            BadValue::Histogram => {
+                "the argument '--histogram' counts all requests in one, and cannot be used with '--by <WHAT>', '--literal', '--every <SECONDS>' or '--json': \
+                 --statement and other filters leave the requests of one, and --summary --json has the buckets of each"
             }
             BadValue::Literal => {
                 "the argument '--literal' cannot be used with '--by <WHAT>', unless that is statement"

@@ -4,6 +4,7 @@
 use crate::kit_host::prelude::{AllocGlobal, Vec};
 use crate::cqlp_options::bad_value::{BadValue, NoLine};
 use crate::cqlp_options::end::{AskedEnd, end};
+use crate::cqlp_options::kind::{AskedKind, kind};
 use crate::cqlp_options::limits::CaptureLimits;
 use crate::cqlp_options::matched::{flag, long_number, number, path};
 use crate::cqlp_options::time::{AskedTime, time};
@@ -52,25 +53,67 @@ impl Ports {
     }
 }
 
+/// What lines of exchanges are to have.
+#[derive(Clone, Copy)]
+pub struct AskedLines {
+    /// Their times are dates and times of day of UTC.
+    pub utc: bool,
+    /// They name the client and the node.
+    pub ends: bool,
+}
+
+impl AskedLines {
+    fn matched(matches: &ArgMatches<'_>) -> AskedLines {
+        AskedLines {
+            utc: flag(matches, "utc"),
+            ends: flag(matches, "ends"),
+        }
+    }
+
+    /// Refuses lines that are to have something.
+    fn check_plain(self) -> Result<(), BadValue> {
+        if self.utc || self.ends {
+            return Err(BadValue::Lines);
+        }
+        Ok(())
+    }
+}
+
 /// How exchanges are written.
 #[derive(Clone, Copy)]
 pub enum ExchangesAs {
     /// A line for each.
-    Lines,
+    Lines {
+        lines: AskedLines,
+        /// Whether it has the values that the request binds.
+        values: bool,
+    },
     /// A JSON object in a line for each.
-    Json,
+    Json {
+        /// Likewise.
+        values: bool,
+    },
     /// A line at the end for each of what they are counted by.
     Summary(SummaryBy),
     /// Likewise a JSON object in a line.
     SummaryJson(SummaryBy),
     /// A line for each interval of so many seconds.
     Intervals(u32),
+    /// How many took how long, in ranges of time that double.
+    Histogram,
 }
 
 impl ExchangesAs {
+    /// What the words were matched to, if what lines are to have is asked of lines.
     fn matched(matches: &ArgMatches<'_>) -> Result<ExchangesAs, BadValue> {
+        let lines = AskedLines::matched(matches);
         let is_json = flag(matches, "json");
         if flag(matches, "summary") {
+            lines.check_plain()?;
+            if flag(matches, "histogram") {
+                check_alone(matches, is_json)?;
+                return Ok(ExchangesAs::Histogram);
+            }
             if let Some(seconds) = number(matches, "every") {
                 return Ok(ExchangesAs::Intervals(seconds));
             }
@@ -80,11 +123,24 @@ impl ExchangesAs {
             }
             return Ok(ExchangesAs::Summary(by));
         }
+        let values = flag(matches, "values");
         if is_json {
-            Ok(ExchangesAs::Json)
+            lines.check_plain()?;
+            Ok(ExchangesAs::Json { values })
         } else {
-            Ok(ExchangesAs::Lines)
+            Ok(ExchangesAs::Lines { lines, values })
         }
+    }
+}
+
+/// Refuses a histogram beside what counts otherwise.
+fn check_alone(matches: &ArgMatches<'_>, is_json: bool) -> Result<(), BadValue> {
+    if is_json || flag(matches, "literal") {
+        return Err(BadValue::Histogram);
+    }
+    match (path(matches, "by"), number(matches, "every")) {
+        (None, None) => Ok(()),
+        (Some(_), _) | (None, Some(_)) => Err(BadValue::Histogram),
     }
 }
 
@@ -151,6 +207,8 @@ pub struct ExchangeOptions<'a> {
     pub errors: bool,
     /// Requests with this opcode alone.
     pub opcode: Option<Opcode>,
+    /// Those alone whose reply is of this kind, and such responses alone.
+    pub kind: Option<AskedKind>,
     /// Those of connections of this client alone.
     pub client: Option<AskedEnd>,
     /// Those of connections of this node alone.
@@ -161,6 +219,8 @@ pub struct ExchangeOptions<'a> {
     pub until: Option<AskedTime>,
     /// Requests alone whose statement has this text.
     pub statement: Option<&'a str>,
+    /// The path of a file with texts of statements that were prepared before.
+    pub statements: Option<&'a str>,
     /// Those of the connection with this number alone; the first has the number 1.
     pub connection: Option<u64>,
     pub form: ExchangesAs,
@@ -169,6 +229,7 @@ pub struct ExchangeOptions<'a> {
 impl<'a> ExchangeOptions<'a> {
     fn matched(matches: &ArgMatches<'a>) -> Result<ExchangeOptions<'a>, BadValue> {
         let opcode = opcode_of(matches)?;
+        let kind = kind(matches)?;
         let client = end(matches, "client").or(Err(BadValue::Client))?;
         let node = end(matches, "node").or(Err(BadValue::Node))?;
         let since = time(matches, "from").or(Err(BadValue::From))?;
@@ -178,11 +239,13 @@ impl<'a> ExchangeOptions<'a> {
             slow: number(matches, "slow"),
             errors: flag(matches, "errors"),
             opcode,
+            kind,
             client,
             node,
             since,
             until,
             statement: path(matches, "statement"),
+            statements: path(matches, "statements"),
             connection: long_number(matches, "connection"),
             form,
         })
@@ -227,6 +290,8 @@ pub struct CaptureOptions<'a> {
     pub task: CaptureTask<'a>,
     pub limits: CaptureLimits,
     pub ports: Ports,
+    /// Whether standard input has the paths of the capture's files, a line each, which are read as their lines come; `file` is `-` then.
+    pub follow: bool,
     /// The path of the capture's first file, or `-` for standard input, which goes alone.
     pub file: &'a str,
     /// The paths of further files, which were captured after it, in order.
@@ -241,6 +306,10 @@ impl<'a> CaptureOptions<'a> {
         matches: &ArgMatches<'a>,
     ) -> Result<CaptureOptions<'a>, NoLine> {
         let (file, others) = files_of(matches)?;
+        let follow = flag(matches, "follow");
+        if follow && file != "-" {
+            return Err(NoLine::BadValue(BadValue::Follow));
+        }
         let task = CaptureTask::matched(matches)?;
         let limits = CaptureLimits::matched(matches).ok_or(BadValue::Range)?;
         let ports = ports_of(matches).ok_or(BadValue::Range)?;
@@ -250,14 +319,17 @@ impl<'a> CaptureOptions<'a> {
             task,
             limits,
             ports,
+            follow,
             file,
             more,
         })
     }
 }
 
-/// The paths of a capture's files, the first and the others, if standard input goes alone.
-fn files_of<'m, 'a>(matches: &'m ArgMatches<'a>) -> Result<(&'a str, &'m [&'a str]), BadValue> {
+/// The paths of files, the first and the others, if standard input goes alone.
+pub(crate) fn files_of<'m, 'a>(
+    matches: &'m ArgMatches<'a>,
+) -> Result<(&'a str, &'m [&'a str]), BadValue> {
     let Some([first, others @ ..]) = matches.get_strs("file") else {
         return Err(BadValue::Range);
     };

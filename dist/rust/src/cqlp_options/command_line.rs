@@ -5,6 +5,7 @@ use crate::kit_host::prelude::{AllocGlobal};
 use crate::cqlp_options::bad_value::{BadValue, NoLine};
 use crate::cqlp_options::capture::CaptureOptions;
 use crate::cqlp_options::matched::short_number;
+use crate::cqlp_options::merge::MergeOptions;
 use crate::cqlp_options::no_task::{NoTask, no_task_of};
 use crate::cqlp_options::options::Options;
 use crate::cqlp_options::program::program;
@@ -29,6 +30,8 @@ pub enum CommandLine<'a> {
     Loop { queries: u16 },
     /// A task with a capture.
     Capture(CaptureOptions<'a>),
+    /// Summaries are added.
+    Merge(MergeOptions<'a>),
 }
 
 impl<'a> CommandLine<'a> {
@@ -47,6 +50,7 @@ impl<'a> CommandLine<'a> {
             CommandLine::Stream(options) => options.file == path,
             CommandLine::Loop { .. } => false,
             CommandLine::Capture(options) => options.file == path || options.more.contains(&path),
+            CommandLine::Merge(options) => options.file == path || options.more.contains(&path),
         }
     }
 
@@ -54,6 +58,7 @@ impl<'a> CommandLine<'a> {
     pub fn has_several_files(&self) -> bool {
         match self {
             CommandLine::Capture(options) => !options.more.is_empty(),
+            CommandLine::Merge(options) => !options.more.is_empty(),
             CommandLine::Stream(_) | CommandLine::Loop { .. } => false,
         }
     }
@@ -98,6 +103,10 @@ fn line_of<'a>(alloc: Global, matches: &ArgMatches<'a>) -> Result<CommandLine<'a
         ("capture", matches) => {
             let options = CaptureOptions::matched(alloc, matches)?;
             Ok(CommandLine::Capture(options))
+        }
+        ("merge", matches) => {
+            let options = MergeOptions::matched(alloc, matches)?;
+            Ok(CommandLine::Merge(options))
         }
         (name, matches) => {
             let options = Options::matched(name, matches).ok_or(BadValue::Range)?;

@@ -6,8 +6,10 @@ mod calendar;
 mod capture;
 mod command_line;
 mod end;
+mod kind;
 mod limits;
 mod matched;
+mod merge;
 mod no_task;
 mod options;
 mod program;
@@ -15,11 +17,14 @@ mod reported;
 mod time;
 
 pub use capture::{
-    CaptureOptions, CaptureTask, ExchangeOptions, ExchangesAs, MOST_PORTS, Ports, SummaryBy,
+    AskedLines, CaptureOptions, CaptureTask, ExchangeOptions, ExchangesAs, MOST_PORTS, Ports,
+    SummaryBy,
 };
 pub use command_line::{CommandLine, QUERIES};
 pub use end::AskedEnd;
+pub use kind::AskedKind;
 pub use limits::CaptureLimits;
+pub use merge::{MergeOptions, SumAs};
 pub use no_task::NoTask;
 pub use options::{AtRefusal, DEFAULT_LIMITS, EventsAs, Options, RowsAs, Task};
-pub use time::AskedTime;
+pub use time::{AskedTime, asked_time};

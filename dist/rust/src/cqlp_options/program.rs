@@ -162,7 +162,7 @@ enum Form {
     Place,
 }
 
-const TASKS: [Task; 5] = [
+const TASKS: [Task; 6] = [
     Task {
         name: "show",
         about: "Write a line for each event of a stream, and a verdict to standard error",
@@ -195,6 +195,12 @@ const TASKS: [Task; 5] = [
         example: "Options whose help begins with Only choose lines: the verdict and the status are those of the whole capture.\n\
                   Example: tcpdump -U -w - port 9042 | cqlp capture --slow 10 -",
         words: &[&CAPTURE],
+    },
+    Task {
+        name: "merge",
+        about: "Add summaries of several captures, as of many nodes, and write one, as cqlp capture --summary writes it",
+        example: "Example: cqlp merge node1.json node2.json",
+        words: &[&MERGE],
     },
 ];
 
@@ -323,11 +329,18 @@ const ALL: LimitRange = LimitRange {
 
 /// What `capture` takes. The help of a limit has its range and what the number is where it is not given, and docs/check compares both
 /// with `CaptureLimits`.
-const CAPTURE: [Word; 24] = [
+const CAPTURE: [Word; 31] = [
     Word {
         name: "file",
         form: Form::Files,
         help: "The capture, a pcap or pcapng file, or several that were captured one after the other; - is standard input",
+        with: &[],
+        without: &[],
+    },
+    Word {
+        name: "follow",
+        form: Form::Flag,
+        help: "Standard input has the paths of captures, a line each, and each is read as its line comes: tcpdump -G 60 -w 'cap-%s.pcap' -z echo writes them",
         with: &[],
         without: &[],
     },
@@ -356,6 +369,13 @@ const CAPTURE: [Word; 24] = [
         name: "opcode",
         form: Form::Text("NAME"),
         help: "Only requests with this opcode, by its name in the lines, such as EXECUTE",
+        with: &[],
+        without: &[],
+    },
+    Word {
+        name: "kind",
+        form: Form::Text("NAME"),
+        help: "Only requests whose reply is of this kind, and such responses, by its name in the lines, such as ROWS, RESULT, ERROR or ReadTimeout",
         with: &[],
         without: &[],
     },
@@ -395,6 +415,14 @@ const CAPTURE: [Word; 24] = [
         without: &[],
     },
     Word {
+        name: "statements",
+        form: Form::Text("FILE"),
+        help: "A file with the texts of statements that were prepared before the capture, for lines, --json and --summary, as cqlsh -e \"SELECT JSON \
+            prepared_id, query_string FROM system.prepared_statements\" writes it",
+        with: &[],
+        without: &["streams", "events", "rows"],
+    },
+    Word {
         name: "connection",
         form: Form::Place,
         help: "Only the connection with this number; the first has the number 1",
@@ -410,6 +438,7 @@ const CAPTURE: [Word; 24] = [
             "slow",
             "errors",
             "opcode",
+            "kind",
             "client",
             "node",
             "from",
@@ -426,6 +455,28 @@ const CAPTURE: [Word; 24] = [
         help: "Write each request with its reply as a JSON object in a line of its own; with --summary each line of it",
         with: &[],
         without: &["streams"],
+    },
+    Word {
+        name: "values",
+        form: Form::Flag,
+        help: "With each request the values that it binds, by their types where its PREPARED was captured, as far as the first 256 bytes \
+            of both have them; for the lines and --json of requests",
+        with: &[],
+        without: &["summary", "events", "rows", "streams"],
+    },
+    Word {
+        name: "utc",
+        form: Form::Flag,
+        help: "The time of each line as a date and a time of day of UTC, as 2026-11-29T10:15:30.000000Z, in place of seconds since the first packet",
+        with: &[],
+        without: &["streams", "events", "rows"],
+    },
+    Word {
+        name: "ends",
+        form: Form::Flag,
+        help: "The client and the node in each line, each as ADDRESS:PORT, behind the connection's number and the stream id",
+        with: &[],
+        without: &["streams", "events", "rows"],
     },
     Word {
         name: "summary",
@@ -459,6 +510,13 @@ const CAPTURE: [Word; 24] = [
         without: &["by", "literal", "json", "streams", "events", "rows"],
     },
     Word {
+        name: "histogram",
+        form: Form::Flag,
+        help: "With --summary, how many requests took how long, in ranges of time that double, in place of the lines",
+        with: &["summary"],
+        without: &["streams", "events", "rows"],
+    },
+    Word {
         name: "events",
         form: Form::Flag,
         help: "A line for each event of each frame, after the connection's number and > of a request or < of a response",
@@ -467,6 +525,7 @@ const CAPTURE: [Word; 24] = [
             "slow",
             "errors",
             "opcode",
+            "kind",
             "client",
             "node",
             "from",
@@ -488,6 +547,7 @@ const CAPTURE: [Word; 24] = [
             "slow",
             "errors",
             "opcode",
+            "kind",
             "client",
             "node",
             "from",
@@ -533,6 +593,24 @@ const CAPTURE: [Word; 24] = [
         name: "order",
         form: Form::Number("N", CaptureLimits::ORDER),
         help: "Packets that wait to be put in order by their times, from 0 to 65536; of - or a pipe none unless given [default: 1000]",
+        with: &[],
+        without: &[],
+    },
+];
+
+/// What `merge` takes.
+const MERGE: [Word; 2] = [
+    Word {
+        name: "file",
+        form: Form::Files,
+        help: "What cqlp capture --summary --json wrote, or several such files; - is standard input",
+        with: &[],
+        without: &[],
+    },
+    Word {
+        name: "json",
+        form: Form::Flag,
+        help: "Write each line as a JSON object, as cqlp capture --summary --json does",
         with: &[],
         without: &[],
     },

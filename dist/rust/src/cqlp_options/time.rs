@@ -22,7 +22,7 @@ pub(crate) struct NoTime;
 pub(crate) fn time(matches: &ArgMatches<'_>, option: &str) -> Result<Option<AskedTime>, NoTime> {
     match path(matches, option) {
         Some(text) => {
-            let time = time_of(text.as_bytes()).ok_or(NoTime)?;
+            let time = asked_time(text.as_bytes()).ok_or(NoTime)?;
             Ok(Some(time))
         }
         None => Ok(None),
@@ -30,7 +30,7 @@ pub(crate) fn time(matches: &ArgMatches<'_>, option: &str) -> Result<Option<Aske
 }
 
 /// The time in a text, in seconds or of the calendar.
-fn time_of(text: &[u8]) -> Option<AskedTime> {
+pub fn asked_time(text: &[u8]) -> Option<AskedTime> {
     if let Some(nanoseconds) = nanoseconds_of(text) {
         return Some(AskedTime::After(nanoseconds));
     }

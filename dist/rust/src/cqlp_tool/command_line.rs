@@ -2,28 +2,33 @@
 //! The command line, from its words to the exit status.
 
 use crate::kit_host::prelude::{AllocGlobal, Vec};
-use crate::cqlp_tool::capture_files::CaptureFiles;
+use crate::cqlp_tool::capture_files::{CaptureFiles, MorePaths};
 use crate::cqlp_tool::conversing::converse;
 use crate::cqlp_tool::folder::{Folder, is_folder};
 use crate::cqlp_tool::limits::{exchange_limits_of, streams_limits_of};
 use crate::cqlp_tool::marks::MARK;
+use crate::cqlp_tool::path_lines::PathLines;
 use crate::cqlp_tool::progress::Progress;
+use crate::cqlp_tool::statements::{put_no_texts, texts_for};
 use crate::cqlp_capture_events::write_events;
 use crate::cqlp_capture_exchanges::{
-    Attribute, EndFilter, ExchangeFilter, ExchangeForm, Moment, Naming, StatementPart, SummaryBy,
-    write_exchanges,
+    Attribute, EndFilter, ExchangeFilter, ExchangeForm, LineStyle, Moment, Naming, ReplyKind,
+    StatementPart, SummaryBy, ValuesShown, write_exchanges,
 };
+use crate::cqlp_capture_merge::{FileNames, MergedAs, merge_summaries};
 use crate::cqlp_capture_rows::write_rows;
 use crate::cqlp_capture_streams::{Buffering, CaptureInput, StreamsLimits, write_streams};
 use crate::cqlp_decode::SinkFault;
-use crate::cqlp_note::{OfStd, Source, Target};
+use crate::cqlp_note::{IoFault, OfStd, Source, Target};
 use crate::cqlp_options::{
-    AskedEnd, AskedTime, AtRefusal, CaptureOptions, CaptureTask, CommandLine, DEFAULT_LIMITS,
-    EventsAs, ExchangeOptions, ExchangesAs, NoTask, Options, RowsAs, SummaryBy as AskedBy, Task,
+    AskedEnd, AskedKind, AskedLines, AskedTime, AtRefusal, CaptureOptions, CaptureTask,
+    CommandLine, DEFAULT_LIMITS, EventsAs, ExchangeOptions, ExchangesAs, MergeOptions, NoTask,
+    Options, RowsAs, SumAs, SummaryBy as AskedBy, Task,
 };
 use crate::cqlp_render::{TextForm, check, conclude, show, show_as};
 use crate::cqlp_render_skip::{check_skipping, show_skipping};
 use crate::cqlp_row_text::TablePlace;
+use crate::cqlp_statement_file::StatementTexts;
 use crate::cqlp_text::exit_status::{BAD_COMMAND_LINE, DONE, FAULT};
 use crate::cqlp_text::{Ending, PagePlace, cannot_open_line, put_text};
 use crate::kit_std::alloc::Allocator;
@@ -90,6 +95,7 @@ where
         Ok(CommandLine::Stream(options)) => stream(rt, options, input, out, err),
         Ok(CommandLine::Loop { queries }) => converse(rt, queries, out, err),
         Ok(CommandLine::Capture(options)) => capture(rt, options, input, out, err, notes),
+        Ok(CommandLine::Merge(options)) => merge(rt, options, input, out, err),
         Err(no_task) => print_no_task(no_task, out, err),
     }
 }
@@ -115,8 +121,7 @@ fn stream<R: Files + AllocGlobal, I: Source, O: Target, E: Target>(
     }
 }
 
-/// Opens the files of a capture, and does the task with them. Of a regular file lines are written in blocks; of standard input and any other
-/// file, as a pipe, at once. Where files are long, `notes` gets how much of them was read.
+/// Reads the texts of statements that are asked for, and does the task with a capture.
 fn capture<R: Files + AllocGlobal, I: CaptureInput, O: Target, E: Target, N: Target>(
     rt: &R,
     options: CaptureOptions<'_>,
@@ -125,12 +130,38 @@ fn capture<R: Files + AllocGlobal, I: CaptureInput, O: Target, E: Target, N: Tar
     err: E,
     notes: &mut Option<N>,
 ) -> (u8, O, E) {
+    match texts_for(rt, asked_statements(options.task)) {
+        Ok(given) => capture_knowing(rt, options, given, input, out, err, notes),
+        Err(no_texts) => {
+            let (status, err) = put_no_texts(no_texts, err);
+            (status, out, err)
+        }
+    }
+}
+
+/// Opens the files of a capture, and does the task with them, where these texts of statements are known. Of a regular file lines are written in blocks; of
+/// standard input and any other file, as a pipe, at once. Where files are long, `notes` gets how much of them was read.
+fn capture_knowing<'a, R, I: CaptureInput, O: Target, E: Target, N: Target>(
+    rt: &'a R,
+    options: CaptureOptions<'a>,
+    given: StatementTexts,
+    input: &mut I,
+    out: O,
+    err: E,
+    notes: &mut Option<N>,
+) -> (u8, O, E)
+where
+    R: Files + AllocGlobal,
+{
     if let Some(folder) = missing_folder(rt, options.task) {
         let (status, err) = cannot_open(folder, err);
         return (status, out, err);
     }
+    if options.file == "-" && options.follow {
+        return follow(rt, &options, given, input, out, err);
+    }
     if options.file == "-" {
-        return read_capture(rt, &options, Buffering::Line, input, out, err);
+        return read_capture(rt, &options, given, Buffering::Line, input, out, err);
     }
     let Ok(file) = File::open(rt, options.file) else {
         let (status, err) = cannot_open(options.file, err);
@@ -143,13 +174,99 @@ fn capture<R: Files + AllocGlobal, I: CaptureInput, O: Target, E: Target, N: Tar
     }
     let buffering = buffering_for(&file);
     let length = long_length(rt, &file, more);
-    let mut files = CaptureFiles::new(rt, file, more);
+    let mut files: CaptureFiles<'_, R, I> = CaptureFiles::new(rt, file, MorePaths::Named(more));
     match (notes.take(), length) {
         (Some(notes), Some(length)) => {
             let mut input = Progress::new(files, length, notes);
-            read_capture(rt, &options, buffering, &mut input, out, err)
+            read_capture(rt, &options, given, buffering, &mut input, out, err)
         }
-        _ => read_capture(rt, &options, buffering, &mut files, out, err),
+        _ => read_capture(rt, &options, given, buffering, &mut files, out, err),
+    }
+}
+
+/// Does the task with the captures whose paths the input names, a line each, as their lines come.
+fn follow<'a, R: Files + AllocGlobal, I: CaptureInput, O: Target, E: Target>(
+    rt: &'a R,
+    options: &CaptureOptions<'_>,
+    given: StatementTexts,
+    input: &'a mut I,
+    out: O,
+    err: E,
+) -> (u8, O, E) {
+    let mut lines = PathLines::new(input);
+    let first = match lines.advance() {
+        Ok(true) => File::open(rt, lines.path()).ok(),
+        Ok(false) | Err(IoFault) => None,
+    };
+    let Some(first) = first else {
+        let (status, err) = cannot_open(or_none_named(lines.path()), err);
+        return (status, out, err);
+    };
+    let mut files: CaptureFiles<'_, R, I> = CaptureFiles::new(rt, first, MorePaths::Listed(lines));
+    let (status, out, err) = read_capture(
+        rt,
+        options,
+        given,
+        Buffering::Line,
+        &mut files,
+        out,
+        err,
+    );
+    match files.missing() {
+        Some(path) => {
+            let (status, err) = cannot_open(or_none_named(path), err);
+            (status, out, err)
+        }
+        None => (status, out, err),
+    }
+}
+
+/// What cannot be opened, where standard input named this.
+fn or_none_named(path: &str) -> &str {
+    if path.is_empty() {
+        "a capture: standard input names none"
+    } else {
+        path
+    }
+}
+
+/// Opens files of summaries, and adds these.
+fn merge<'a, R: Files + AllocGlobal, I: CaptureInput, O: Target, E: Target>(
+    rt: &'a R,
+    options: MergeOptions<'a>,
+    input: &mut I,
+    out: O,
+    err: E,
+) -> (u8, O, E) {
+    let first = options.file;
+    let form = merged_as(options.form);
+    let more = options.more.as_slice();
+    if first == "-" {
+        return merge_summaries(rt.alloc(), FileNames { first, more }, form, input, out, err);
+    }
+    let Ok(file) = File::open(rt, first) else {
+        let (status, err) = cannot_open(first, err);
+        return (status, out, err);
+    };
+    if let Some(path) = missing_file(rt, more) {
+        let (status, err) = cannot_open(path, err);
+        return (status, out, err);
+    }
+    let mut files: CaptureFiles<'_, R, I> = CaptureFiles::new(rt, file, MorePaths::Named(more));
+    merge_summaries(
+        rt.alloc(),
+        FileNames { first, more },
+        form,
+        &mut files,
+        out,
+        err,
+    )
+}
+
+fn merged_as(asked: SumAs) -> MergedAs {
+    match asked {
+        SumAs::Table => MergedAs::Table,
+        SumAs::Json => MergedAs::Objects,
     }
 }
 
@@ -184,6 +301,14 @@ fn missing_folder<'a, R: Files>(rt: &R, asked: CaptureTask<'a>) -> Option<&'a st
     }
 }
 
+/// The file with texts of statements that a task with a capture asks for.
+fn asked_statements<'a>(asked: CaptureTask<'a>) -> Option<&'a str> {
+    match asked {
+        CaptureTask::Exchanges(asked) => asked.statements,
+        CaptureTask::Streams { .. } | CaptureTask::Events { .. } | CaptureTask::Rows { .. } => None,
+    }
+}
+
 /// When the lines of a capture in this file are written.
 fn buffering_for<F: OpenFile>(file: &F) -> Buffering {
     match file.metadata() {
@@ -209,10 +334,11 @@ fn regular_length(metadata: io::Result<Metadata>) -> Option<u64> {
     }
 }
 
-/// Does the task with a capture, whose folder is there if it asks for one.
+/// Does the task with a capture, whose folder is there if it asks for one, where these texts of statements are known.
 fn read_capture<R: Files + AllocGlobal, I: CaptureInput, O: Target, E: Target>(
     rt: &R,
     options: &CaptureOptions<'_>,
+    given: StatementTexts,
     buffering: Buffering,
     input: &mut I,
     out: O,
@@ -230,6 +356,7 @@ fn read_capture<R: Files + AllocGlobal, I: CaptureInput, O: Target, E: Target>(
                 limits,
                 exchange_limits_of(&options.limits),
                 ports,
+                given,
                 filter_of(asked),
                 form_of(asked.form),
                 buffering,
@@ -268,11 +395,13 @@ fn filter_of(asked: ExchangeOptions<'_>) -> ExchangeFilter {
         slow,
         errors,
         opcode,
+        kind,
         client,
         node,
         since,
         until,
         statement,
+        statements: _,
         connection,
         form: _,
     } = asked;
@@ -280,12 +409,21 @@ fn filter_of(asked: ExchangeOptions<'_>) -> ExchangeFilter {
         slow: slow.map(|ms| u64::from(ms) * NANOSECONDS_PER_MILLISECOND),
         errors,
         opcode,
+        kind: kind.map(reply_kind_of),
         client: client.map(end_filter_of),
         node: node.map(end_filter_of),
         since: moment_of(since),
         until: moment_of(until),
         statement: statement.map(StatementPart::of),
         connection,
+    }
+}
+
+fn reply_kind_of(asked: AskedKind) -> ReplyKind {
+    match asked {
+        AskedKind::Result(kind) => ReplyKind::Result(kind),
+        AskedKind::Error(code) => ReplyKind::Error(code),
+        AskedKind::Response(opcode) => ReplyKind::Response(opcode),
     }
 }
 
@@ -306,11 +444,28 @@ fn moment_of(asked: Option<AskedTime>) -> Option<Moment> {
 
 fn form_of(asked: ExchangesAs) -> ExchangeForm {
     match asked {
-        ExchangesAs::Lines => ExchangeForm::Lines,
-        ExchangesAs::Json => ExchangeForm::Json,
+        ExchangesAs::Lines { lines, values } => ExchangeForm::Lines(style_of(lines, values)),
+        ExchangesAs::Json { values } => ExchangeForm::Json(values_shown(values)),
         ExchangesAs::Summary(by) => ExchangeForm::Summary(summary_by(by)),
         ExchangesAs::SummaryJson(by) => ExchangeForm::SummaryJson(summary_by(by)),
         ExchangesAs::Intervals(seconds) => ExchangeForm::Intervals(seconds),
+        ExchangesAs::Histogram => ExchangeForm::Histogram,
+    }
+}
+
+fn values_shown(asked: bool) -> ValuesShown {
+    if asked {
+        ValuesShown::Yes
+    } else {
+        ValuesShown::No
+    }
+}
+
+fn style_of(asked: AskedLines, values: bool) -> LineStyle {
+    LineStyle {
+        is_utc: asked.utc,
+        has_ends: asked.ends,
+        values: values_shown(values),
     }
 }
 
@@ -371,7 +526,7 @@ fn form_of_rows(form: RowsAs) -> TextForm {
 }
 
 /// Reports that a file cannot be opened. Answers the exit status.
-fn cannot_open<E: Target>(file: &str, mut err: E) -> (u8, E) {
+pub(crate) fn cannot_open<E: Target>(file: &str, mut err: E) -> (u8, E) {
     match cannot_open_line(file, &mut err) {
         Ok(()) | Err(SinkFault) => (FAULT, err),
     }

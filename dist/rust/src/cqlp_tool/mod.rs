@@ -9,7 +9,9 @@ mod folder;
 mod limits;
 mod line;
 mod marks;
+mod path_lines;
 mod progress;
+mod statements;
 
 pub use command_line::{command, command_with_notes};
 pub(crate) use command_line::{execute};

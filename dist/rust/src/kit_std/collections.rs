@@ -2,6 +2,7 @@
 use super::alloc::{AllocError, AllocFailed, Allocator, Global};
 use ::alloc::collections::VecDeque as Deque;
 use ::alloc::vec::Vec as Rows;
+use core::borrow::Borrow;
 use core::marker::PhantomData;
 use core::mem::replace;
 use core::ops::{Deref, DerefMut};
@@ -101,6 +102,16 @@ impl<K: Ord, V, A: Allocator> BTreeMap<K, V, A> {
     }
 
     #[must_use]
+    pub fn get<Q: Ord + ?Sized>(&self, key: &Q) -> Option<&V>
+    where
+        K: Borrow<Q>,
+    {
+        let (row, found) = self.find(key);
+        let at = found.ok()?;
+        Some(&self.rows[row].1[at])
+    }
+
+    #[must_use]
     pub fn get_mut(&mut self, key: &K) -> Option<&mut V> {
         let (row, found) = self.find(key);
         let at = found.ok()?;
@@ -141,9 +152,12 @@ impl<K: Ord, V, A: Allocator> BTreeMap<K, V, A> {
     }
 
     /// The row of a key, and its place there, or where it would be.
-    fn find(&self, key: &K) -> (usize, Result<usize, usize>) {
-        let row = self.rows.partition_point(|row| row.0.first() <= Some(key)).saturating_sub(1);
-        (row, self.rows.get(row).map_or(Err(0), |row| row.0.binary_search(key)))
+    fn find<Q: Ord + ?Sized>(&self, key: &Q) -> (usize, Result<usize, usize>)
+    where
+        K: Borrow<Q>,
+    {
+        let row = self.rows.partition_point(|row| row.0.first().is_none_or(|first| first.borrow() <= key)).saturating_sub(1);
+        (row, self.rows.get(row).map_or(Err(0), |row| row.0.binary_search_by(|own| own.borrow().cmp(key))))
     }
 
     /// Room for one more entry at this place, which may lie in another row then: behind all others in a new one, so that ascending keys fill rows.

@@ -1,0 +1,242 @@
+// Written by dist/erase from crates/cqlp_bound_values/src/text.rt.
+//! Values that are bound, as a part of a line and as members of a JSON object.
+
+use crate::cqlp_bound_values::binding::{Binding, BoundValues};
+use crate::cqlp_bound_values::field::text_front;
+use crate::cqlp_bound_values::item::Item;
+use crate::cqlp_bound_values::scalars::shown_scalar;
+use crate::cqlp_capture_summary::put_shown_text;
+use crate::cqlp_grammar::SinkFault;
+use crate::cqlp_json::{put_scalar, put_string};
+use crate::cqlp_kind::Kind;
+use crate::cqlp_text::{Pen, TextWriter};
+
+/// How values are written.
+#[derive(Clone, Copy)]
+enum Form {
+    Line,
+    Json,
+}
+
+/// Takes what a line has of the values that a request binds: each as `cqlp rows` writes a cell; nothing where there are none, or none is seen.
+///
+/// # Errors
+///
+/// The fault of the pen.
+#[inline(never)]
+pub fn put_values<P: Pen>(
+    writer: &mut TextWriter<P>,
+    binding: &Binding<'_>,
+) -> Result<(), SinkFault> {
+    match binding {
+        Binding::Nothing => writer.put(b""),
+        Binding::Unseen => writer.put(b""),
+        Binding::Values(values) => put_list(writer, values),
+    }
+}
+
+fn put_list<P: Pen>(writer: &mut TextWriter<P>, values: &BoundValues<'_>) -> Result<(), SinkFault> {
+    writer.put(b" values [")?;
+    put_items(writer, Form::Line, values)?;
+    writer.put(b"]")
+}
+
+/// Takes the members of a JSON object that say which values a request binds, and whether all bytes of all of them are there: each as `cqlp rows --json`
+/// writes a cell.
+///
+/// # Errors
+///
+/// The fault of the pen.
+#[inline(never)]
+pub fn put_values_members<P: Pen>(
+    writer: &mut TextWriter<P>,
+    binding: &Binding<'_>,
+) -> Result<(), SinkFault> {
+    match binding {
+        Binding::Nothing => writer.put(b",\"values\":null,\"values_are_whole\":null"),
+        Binding::Unseen => writer.put(b",\"values\":null,\"values_are_whole\":false"),
+        Binding::Values(values) => put_array(writer, values),
+    }
+}
+
+fn put_array<P: Pen>(writer: &mut TextWriter<P>, values: &BoundValues<'_>) -> Result<(), SinkFault> {
+    writer.put(b",\"values\":[")?;
+    put_items(writer, Form::Json, values)?;
+    writer.put(b"],\"values_are_whole\":")?;
+    writer.put_str(boolean_text(values.are_whole()))
+}
+
+fn boolean_text(flag: bool) -> &'static str {
+    if flag { "true" } else { "false" }
+}
+
+/// Takes values, one after the other, up to the first one that is not there.
+fn put_items<P: Pen>(
+    writer: &mut TextWriter<P>,
+    form: Form,
+    values: &BoundValues<'_>,
+) -> Result<(), SinkFault> {
+    let mut rest = *values;
+    let mut is_first = true;
+    while rest.count() > 0 {
+        put_item(writer, form, is_first, &rest)?;
+        if rest.item().is_missing() {
+            return Ok(());
+        }
+        rest = rest.others();
+        is_first = false;
+    }
+    Ok(())
+}
+
+/// Takes the first of these values, behind what comes before it.
+fn put_item<P: Pen>(
+    writer: &mut TextWriter<P>,
+    form: Form,
+    is_first: bool,
+    values: &BoundValues<'_>,
+) -> Result<(), SinkFault> {
+    let item = values.item();
+    if item.is_missing() {
+        return put_missing(writer, form, is_first);
+    }
+    put_present(writer, form, is_first, values, &item)
+}
+
+/// Takes what there is in place of a value that is not there.
+fn put_missing<P: Pen>(
+    writer: &mut TextWriter<P>,
+    form: Form,
+    is_first: bool,
+) -> Result<(), SinkFault> {
+    match (form, is_first) {
+        (Form::Line, true) => writer.put(b".."),
+        (Form::Line, false) => writer.put(b", .."),
+        (Form::Json, _) => writer.put(b""),
+    }
+}
+
+fn put_present<P: Pen>(
+    writer: &mut TextWriter<P>,
+    form: Form,
+    is_first: bool,
+    values: &BoundValues<'_>,
+    item: &Item<'_>,
+) -> Result<(), SinkFault> {
+    writer.put_str(separator(form, is_first))?;
+    put_name(writer, form, values)?;
+    put_value(writer, form, values.kind(), item)?;
+    writer.put_str(behind_named(form, values.are_named()))
+}
+
+fn separator(form: Form, is_first: bool) -> &'static str {
+    match (form, is_first) {
+        (_, true) => "",
+        (Form::Line, false) => ", ",
+        (Form::Json, false) => ",",
+    }
+}
+
+/// What comes behind a value with a name: in JSON it is the only member of an object.
+fn behind_named(form: Form, is_named: bool) -> &'static str {
+    match (form, is_named) {
+        (Form::Json, true) => "}",
+        (Form::Json, false) => "",
+        (Form::Line, _) => "",
+    }
+}
+
+/// Takes the name of the first of these values, if it has one.
+fn put_name<P: Pen>(
+    writer: &mut TextWriter<P>,
+    form: Form,
+    values: &BoundValues<'_>,
+) -> Result<(), SinkFault> {
+    if values.are_named() {
+        put_name_as(writer, form, text_front(values.name()))
+    } else {
+        writer.put(b"")
+    }
+}
+
+fn put_name_as<P: Pen>(writer: &mut TextWriter<P>, form: Form, name: &str) -> Result<(), SinkFault> {
+    match form {
+        Form::Line => put_line_name(writer, name),
+        Form::Json => put_json_name(writer, name),
+    }
+}
+
+fn put_line_name<P: Pen>(writer: &mut TextWriter<P>, name: &str) -> Result<(), SinkFault> {
+    put_shown_text(writer, name)?;
+    writer.put(b": ")
+}
+
+fn put_json_name<P: Pen>(writer: &mut TextWriter<P>, name: &str) -> Result<(), SinkFault> {
+    writer.put(b"{")?;
+    put_string(name, writer)?;
+    writer.put(b":")
+}
+
+/// Takes a value of this kind that is there.
+fn put_value<P: Pen>(
+    writer: &mut TextWriter<P>,
+    form: Form,
+    kind: Kind,
+    item: &Item<'_>,
+) -> Result<(), SinkFault> {
+    match form {
+        Form::Line => put_line_value(writer, kind, item),
+        Form::Json => put_json_value(writer, kind, item),
+    }
+}
+
+fn put_line_value<P: Pen>(
+    writer: &mut TextWriter<P>,
+    kind: Kind,
+    item: &Item<'_>,
+) -> Result<(), SinkFault> {
+    match *item {
+        Item::Missing => writer.put(b""),
+        Item::Null => writer.put(b"null"),
+        Item::Unset => writer.put(b"unset"),
+        Item::Content {
+            bytes: [],
+            is_whole: true,
+        } => writer.put(b"empty"),
+        Item::Content { bytes, is_whole } => put_content(writer, kind, bytes, is_whole),
+    }
+}
+
+fn put_content<P: Pen>(
+    writer: &mut TextWriter<P>,
+    kind: Kind,
+    bytes: &[u8],
+    is_whole: bool,
+) -> Result<(), SinkFault> {
+    writer.put_cell(&shown_scalar(kind, bytes, is_whole))?;
+    writer.put_str(more(is_whole))
+}
+
+/// Two points behind what is not all of it.
+fn more(is_whole: bool) -> &'static str {
+    if is_whole { "" } else { ".." }
+}
+
+fn put_json_value<P: Pen>(
+    writer: &mut TextWriter<P>,
+    kind: Kind,
+    item: &Item<'_>,
+) -> Result<(), SinkFault> {
+    match *item {
+        Item::Missing => writer.put(b""),
+        Item::Null => writer.put(b"null"),
+        Item::Unset => writer.put(b"{}"),
+        Item::Content {
+            bytes: [],
+            is_whole: true,
+        } => writer.put(b"\"\""),
+        Item::Content { bytes, is_whole } => {
+            put_scalar(&shown_scalar(kind, bytes, is_whole), writer)
+        }
+    }
+}

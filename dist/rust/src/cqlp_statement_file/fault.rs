@@ -1,0 +1,25 @@
+// Written by dist/erase from crates/cqlp_statement_file/src/fault.rt.
+//! Why a file has no statements.
+
+use crate::kit_std::alloc::AllocError;
+
+/// Why a file has no statements.
+#[derive(Clone, Copy, Debug, PartialEq, Eq)]
+pub enum StatementsFault {
+    /// A read failed.
+    Read,
+    /// Memory was refused.
+    NoMemory,
+    /// This line, of which the first has the number 1, is no object with an id and a text.
+    NoObject { line: u64 },
+    /// This line is too long.
+    TooLong { line: u64 },
+    /// No line has an object.
+    NoStatement,
+}
+
+impl From<AllocError> for StatementsFault {
+    fn from(_error: AllocError) -> StatementsFault {
+        StatementsFault::NoMemory
+    }
+}
