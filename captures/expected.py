@@ -548,6 +548,7 @@ def read_request(body, kind, said):
     body.string() if kind == 'Execute' else body.content(0)
     said['consistency'] = body.number(2)
     flags = body.number(1)
+    said['next'] = 'true' if flags & 8 else 'false'
     if flags & 1:
         for _ in range(body.number(2)):
             if flags & 0x40:
@@ -562,7 +563,9 @@ def read_result(body, said):
     said['result'] = body.number(4)
     if said['result'] != 2:
         return
-    flags, columns = body.number(4), body.number(4, True)
+    flags = body.number(4)
+    said['more'] = 'true' if flags & 2 else 'false'
+    columns = body.number(4, True)
     if columns < 0:
         raise Short
     said['columns'] = columns
@@ -606,7 +609,7 @@ def facts(frame):
             before = 0
     except Short:
         before = len(frame['body']) if before is None else before
-    names = ('consistency', 'page', 'trace', 'warnings', 'result', 'error', 'columns', 'rows')
+    names = ('consistency', 'page', 'next', 'trace', 'warnings', 'result', 'error', 'more', 'columns', 'rows')
     return before, ''.join(f' {name} {said[name]}' for name in names if name in said)
 
 

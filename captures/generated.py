@@ -32,7 +32,10 @@ HEADER = 9
 REQUESTS = {"STARTUP": 0x01, "OPTIONS": 0x05, "QUERY": 0x07, "PREPARE": 0x09, "EXECUTE": 0x0A, "BATCH": 0x0D}
 OPCODES = {"ERROR": 0x00, "READY": 0x02, "SUPPORTED": 0x06, "RESULT": 0x08, "EVENT": 0x0C, **REQUESTS}
 CONSISTENCIES = {0x0001: "ONE", 0x0004: "QUORUM", 0x0006: "LOCAL_QUORUM", 0x000A: "LOCAL_ONE"}
-ERRORS = {0x1000: "Unavailable", 0x1001: "Overloaded", 0x2200: "Invalid"}
+ERRORS = {0x1000: "Unavailable", 0x1001: "Overloaded", 0x1200: "ReadTimeout", 0x2200: "Invalid"}
+# What those say that have contents, as an object has it.
+DETAILS = {0x1000: '{"consistency": "ONE", "required": 2, "alive": 1}',
+           0x1200: '{"consistency": "LOCAL_QUORUM", "received": 1, "required": 2, "data_present": true}'}
 
 
 # ---- messages: the bytes of a frame with stream id 0, and what is to be said of it
@@ -74,18 +77,20 @@ def letters(chance, count):
     return "".join(chance.choices("abcdefghijklmnopqrstuvwxyz", k=count)).encode()
 
 
-def parameters(chance, consistency, page):
+def parameters(chance, consistency, page, state=b""):
     """The parameters of a QUERY or EXECUTE (section 4.1.4): values are letters, so that no bytes within a body look like a header."""
     values = [value(letters(chance, 8)) for _ in range(chance.randrange(4))]
-    flags = (0x01 if values else 0) | (0x04 if page else 0)
-    return short(consistency) + bytes([flags]) + (short(len(values)) if values else b"") + b"".join(values) + (whole(page) if page else b"")
+    flags = (0x01 if values else 0) | (0x04 if page else 0) | (0x08 if state else 0)
+    paging = (whole(page) if page else b"") + (value(state) if state else b"")
+    return short(consistency) + bytes([flags]) + (short(len(values)) if values else b"") + b"".join(values) + paging
 
 
 def query(chance, padding=0):
     text = f"SELECT v FROM ks.t WHERE k = {chance.randrange(1_000)}" + " " * padding
     consistency, page = chance.choice(list(CONSISTENCIES)), chance.choice([None, 100, 5_000])
-    body = long_string(text) + parameters(chance, consistency, page)
-    return Template("QUERY", body, statement=text, consistency=CONSISTENCIES[consistency], page_size=page)
+    state = b"next" if page == 100 else b""
+    body = long_string(text) + parameters(chance, consistency, page, state)
+    return Template("QUERY", body, statement=text, consistency=CONSISTENCIES[consistency], page_size=page, has_paging_state=page == 100)
 
 
 def statement_of(number):
@@ -103,7 +108,7 @@ def prepare(number):
 def execute(chance, number):
     consistency, name = chance.choice(list(CONSISTENCIES)), name_of(number)
     body = short(len(name)) + name + parameters(chance, consistency, None)
-    return Template("EXECUTE", body, statement=statement_of(number), consistency=CONSISTENCIES[consistency])
+    return Template("EXECUTE", body, statement=statement_of(number), consistency=CONSISTENCIES[consistency], has_paging_state=False)
 
 
 def batch(chance, number):
@@ -137,9 +142,12 @@ def warned(chance):
 
 def rows(chance, count):
     flags, before, facts = warned(chance)
-    metadata = whole(1) + whole(2) + string("ks") + string("t") + string("k") + short(0x0D) + string("v") + short(0x0D)
+    has_more = count % 3 == 1
+    state = value(b"more") if has_more else b""
+    metadata = whole(3 if has_more else 1) + whole(2) + state + string("ks") + string("t") + string("k") + short(0x0D) + string("v") + short(0x0D)
     cells = value(letters(chance, 11)) * (2 * count)
-    return Template("RESULT", before + whole(2) + metadata + whole(count) + cells, flags, result="ROWS", rows=count, columns=2, **facts)
+    body = before + whole(2) + metadata + whole(count) + cells
+    return Template("RESULT", body, flags, result="ROWS", rows=count, columns=2, has_more_pages=has_more, **facts)
 
 
 def void(chance):
@@ -149,8 +157,9 @@ def void(chance):
 
 def error(chance):
     code = chance.choice(list(ERRORS))
-    text, more = f"refused {code:x}", short(1) + whole(2) + whole(1) if code == 0x1000 else b""
-    return Template("ERROR", whole(code) + string(text) + more, error=ERRORS[code], message=text)
+    text, behind = f"refused {code:x}", {0x1000: short(1) + whole(2) + whole(1), 0x1200: short(6) + whole(1) + whole(2) + b"\1"}.get(code, b"")
+    details = {"details": DETAILS[code]} if code in DETAILS else {}
+    return Template("ERROR", whole(code) + string(text) + behind, error=ERRORS[code], message=text, **details)
 
 
 def event():

@@ -140,7 +140,7 @@ def batch(flags, body, known):
 
 
 def asked(flags, body, message):
-    """What comes before the statement of a request, and after it: its consistency, and how many rows a page is to have."""
+    """What comes before the statement of a request, and after it: its consistency, how many rows a page is to have, and whether it is one after the first."""
     fields = Fields(body)
     pass_payload(fields, flags)
     if message["opcode"] not in ("Query", "Execute"):
@@ -151,11 +151,11 @@ def asked(flags, body, message):
         if parts & 0x40:
             fields.text()
         fields.value()
-    return f" {consistency}", f" page {fields.number(4)}" if parts & 0x04 else ""
+    return f" {consistency}", (f" page {fields.number(4)}" if parts & 0x04 else "") + (" next" if parts & 0x08 else "")
 
 
 def said_by(fields, message):
-    """Rows and columns, or the message of an ERROR."""
+    """Rows and columns and whether more pages follow, or the message of an ERROR."""
     if message["opcode"] == "Error":
         fields.number(4)
         return f' "{fields.text().decode()}"'
@@ -170,7 +170,7 @@ def said_by(fields, message):
         if not flags & 0x01:
             fields.text(), fields.text()
         fields.text(), fields.pass_type()
-    return f" {fields.number(4)}x{columns}"
+    return f" {fields.number(4)}x{columns}" + (" more" if flags & 0x02 else "")
 
 
 def answered(flags, body, message):

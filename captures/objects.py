@@ -1,8 +1,9 @@
 #!/usr/bin/env python3
 """captures/objects.py FILE COMMAND..: prints what is wrong with the objects (--json) and the summary (--summary) that `cqlp capture` writes of a
-capture, beside its lines, which lines.py reads in another way. Each object has to say what its line says, all the same first moment, and those of a
+capture, beside its lines, which lines.py reads in another way. Each object has to say what its line says, also with --utc and --ends and of those that --kind
+leaves, all the same first moment, and those of a
 connection the same ends; and each statement of the summary what its lines add up to, with --by each table, client, node, opcode and error, also as
-JSON, and with --every each interval."""
+JSON, with --every each interval, and with --histogram the times of all."""
 import collections
 import datetime
 import json
@@ -43,7 +44,20 @@ def request(of):
         words.append(of["id"] + ("" if of["statement_is_whole"] else ".."))
     if of["page_size"] is not None:
         words.append(f"page {of['page_size']}")
+    if of["has_paging_state"]:
+        words.append("next")
     return " ".join(word for word in [*words, mark(of, "request")] if word is not None)
+
+
+def nodes(details):
+    """How many nodes an ERROR counts, if it says all of these numbers."""
+    if "required" not in details or None in (details[key] for key in details if key not in ("write_type", "data_present")):
+        return
+    level = details["consistency"]
+    yield level if isinstance(level, str) else f"0x{level:04x}"
+    yield f"alive {details['alive']} of {details['required']}" if "alive" in details else f"received {details['received']} of {details['required']}"
+    if "failures" in details:
+        yield f"failed {details['failures']}"
 
 
 def response(of):
@@ -52,8 +66,11 @@ def response(of):
         words = ["ERROR", of["error"]]
     if of["message"] is not None:
         words.append(quoted(of["message"], of["message_is_whole"]))
+    words += nodes(of.get("details", {}))
     if of["rows"] is not None:
         words.append(f"{of['rows']}x{of['columns']}")
+    if of["has_more_pages"]:
+        words.append("more")
     if of["warnings"] is not None:
         words.append(f"warnings {of['warnings']}")
     if of["tracing_id"] is not None:
@@ -210,6 +227,33 @@ def objects_by(what, objects):
     return found
 
 
+# What lines may have beside what they have without options.
+STYLES = ((), ("--utc",), ("--ends",), ("--utc", "--ends"))
+
+
+def utc_of(of):
+    """When what an object says began, to the microsecond, or where that is not exact, to the nanosecond."""
+    return "-" if of["utc"] is None else of["utc"].removesuffix("000Z").removesuffix("Z") + "Z"
+
+
+def styled(text, of, style):
+    """The line of an object in this style, by the line without options."""
+    time, place, rest = text.split(" ", 2)
+    ends = (of["client"], of["node"]) if "--ends" in style else ()
+    return " ".join([utc_of(of) if "--utc" in style else time, place, *ends, rest])
+
+
+# The names that --kind takes: of results, of responses and of errors.
+KINDS = """VOID ROWS SET_KEYSPACE PREPARED SCHEMA_CHANGE RESULT ERROR READY AUTHENTICATE SUPPORTED EVENT AUTH_CHALLENGE AUTH_SUCCESS ServerError
+    ProtocolError AuthenticationError Unavailable Overloaded IsBootstrapping TruncateError WriteTimeout ReadTimeout ReadFailure FunctionFailure WriteFailure
+    SyntaxError Unauthorized Invalid ConfigError AlreadyExists Unprepared""".split()
+
+
+def is_of_kind(kind, of):
+    """Whether the response of an object, if it has one, is of the kind with this name."""
+    return kind in (of.get("result"), of.get("response"), of.get("error"))
+
+
 EVERY = "begin per_s count errors unanswered rows bytes p50_ms p95_ms p99_ms max_ms".split()
 
 
@@ -240,6 +284,21 @@ def rows_every(width, objects):
     return rows
 
 
+def histogram_of(objects):
+    """The lines of a histogram: how many requests took a time below 32 nanoseconds, or from a power of two on and below the next."""
+    numbers, times, _ = counted = nothing()
+    for of in objects:
+        if of["told"] in ("exchange", "unanswered"):
+            count_in(counted, of)
+    digits = collections.Counter(max(time.bit_length(), 5) for time in times)
+    lines = ["      up_to_ms    count     %"]
+    for width in range(min(digits, default=1), max(digits, default=0) + 1):
+        bound, count, share = 2 ** width - 1, digits[width], digits[width] * 1_000 // len(times)
+        bar = "#" * -(-count * 50 // max(digits.values()))
+        lines.append(f" {bound // 1_000_000:6}.{bound % 1_000_000:06} {count:8} {share // 10:3}.{share % 10} {bar}".rstrip())
+    return lines + [f"unanswered {numbers[2]}"] * (numbers[2] > 0)
+
+
 def read_objects(texts):
     objects = [json.loads(text, parse_float=Decimal) for text in texts]
     return {of["name"]: of for of in objects}
@@ -265,6 +324,14 @@ def main(file, *command):
     connections = {of["connection"] for of in objects}
     if len(moments) > 1 or len({(of["connection"], of["client"], of["node"]) for of in objects}) != len(connections):
         print(f"not one beginning, or not one client and node of a connection: {moments}")
+    for kind in KINDS:
+        left = [text for text, of in zip(lines, objects) if is_of_kind(kind, of)]
+        if written(command, file, "--kind", kind) != (left, said):
+            print(f"--kind {kind}: other lines than {left}")
+    for style in STYLES:
+        due = [styled(text, of, style) for text, of in zip(lines, objects)]
+        if written(command, file, *style) != (due, said):
+            print(f"other lines with {style} than {due}")
     counted = {}
     for text in summary[1:]:
         words = text.split(None, 11)
@@ -278,6 +345,8 @@ def main(file, *command):
         counts, said_of_counts = written(command, file, "--summary", "--by", what, "--json")
         if said_of_counts != said or read_objects(counts) != objects_by(what, objects):
             print(f"by {what} as JSON: {counts}\n{objects_by(what, objects)}")
+    if written(command, file, "--summary", "--histogram") != (histogram_of(objects), said):
+        print(f"another histogram than {histogram_of(objects)}")
     for width in (1, 7, 60, 86_400):
         rows, said_of_rows = written(command, file, "--summary", "--every", str(width))
         if said_of_rows != said or [row.split() for row in rows] != [EVERY, *rows_every(width, objects)]:

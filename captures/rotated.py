@@ -127,6 +127,45 @@ def pipes(program, data, room):
             print('the pipe is not read to its end')
 
 
+def followed(program, data, room):
+    """Files whose paths come on standard input give the same lines as those that are named, as each path comes."""
+    capture = (data / 'driver.pcap').read_bytes()
+    count = len(packets(capture))
+
+    def follow(names, *words):
+        done = subprocess.run([program, 'capture', *PORTS, *words, '--follow', '-'], input=names, capture_output=True, timeout=60)
+        return done.returncode, done.stdout.decode(), done.stderr.decode()
+
+    for sizes in ([count // 2], [0, count // 3, 0, count // 3], [1] * count):
+        files = split(capture, sizes, room / 'rotated')
+        for words in ([], ['--json'], ['--summary'], ['--events'], ['--rows', '--connection', '2']):
+            named = ran(program, files, *words, '--order', '0')
+            for ends in ('\n', '\n\n\n'):
+                compare(f'{sizes} {words} {ends!r}', named, follow(ends.join(map(str, files)).encode(), *words), len(sizes))
+    with subprocess.Popen([program, 'capture', *PORTS, '--follow', '-'], stdin=subprocess.PIPE, stdout=subprocess.PIPE, stderr=subprocess.DEVNULL) as live:
+        first, rest = files[0:count // 2], files[count // 2:]
+        lines = ran(program, first, '--order', '0')[1].count('-> ') - ran(program, first, '--order', '0')[1].count('-> nothing')
+        for path in first:
+            for byte in f'{path}\n'.encode():
+                live.stdin.write(bytes([byte]))
+                live.stdin.flush()
+        early = [live.stdout.readline() for _ in range(lines)]
+        live.stdin.write(''.join(f'{path}\n' for path in rest).encode())
+        live.stdin.close()
+        if b''.join(early) + live.stdout.read() != ran(program, files, '--order', '0')[1].encode() or lines < 5:
+            print(f'live: {early}')
+    path = f'{data.resolve()}/driver.pcap'
+    long = '/'.join(['', *['.'] * ((4_095 - len(path)) // 2)]) + path
+    for names, said in (('', 'cqlp: cannot open a capture: standard input names none\n'), ('\n\n', 'cqlp: cannot open a capture: standard input names none\n'),
+                        ('none', 'cqlp: cannot open none\n'), (f'{path}\nnone\n', 'cqlp: read fault\ncqlp: cannot open none\n'),
+                        ('\udcff\n', 'cqlp: cannot open a capture: standard input names none\n'), ('a' * 5_000, 'cqlp: cannot open a capture: standard input names none\n')):
+        got = follow(names.encode('utf-8', 'surrogateescape'), '--summary')
+        if got != (3, '', said):
+            print(f'{names[:50]!r}: {got}')
+    if follow(f'{long}\n'.encode())[0] != 0 or not 4_090 < len(long) < 4_096:
+        print(f'a path of {len(long)} bytes')
+
+
 def streams(program, data, room):
     """The streams of connections go on from file to file."""
     capture = (data / 'driver.pcap').read_bytes()
