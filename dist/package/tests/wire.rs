@@ -11,7 +11,7 @@ use cqlp::frame::{Frame, Message, Metadata, QueryParams, Spec, Value, encode};
 use cqlp::rows::{BindFault, RowError, RowSink, page_rows};
 use cqlp::session::{BeginError, RequestKind, Stray};
 use cqlp::wire::{
-    AnyHeader, Arrival, ClientSide, FrameReader, Heard, Inbox, KeepError, Outbox, PageTrack, ServerSide, TextAlterer, WireError,
+    AnyHeader, Arrival, CellPlace, ClientSide, FrameReader, Heard, Inbox, KeepError, Outbox, PageTrack, ServerSide, TextAlterer, WireError,
 };
 use cqlp::{Consistency, Decoder, ErrorCode, Event, Global, Header, Kind, Limits, OfStd, Reason, Step, Target, bind};
 use std::error::Error;
@@ -301,25 +301,28 @@ fn texts_are_altered() {
     assert!(matches!(alterer.alter(&bytes, |_, text| Some(text.repeat(2_000))), Err(WireError::Build(_))));
 }
 
-/// The column of the bytes that come next, cell by cell, over a cell with items too.
+/// The column of the bytes that come next, cell by cell, over a cell with items too, and of which cell each event was.
 #[test]
 fn a_page_is_tracked() {
     let list = Spec::new("tags", cqlp::frame::TypeTree::list(Kind::Varchar));
     let cells = vec![Value::List(vec![Value::from("x"), Value::from("y")].into()), Value::from(1), Value::Null, Value::from(2)];
     let frames = [Frame::plain(1, Message::rows("ks", "t", vec![list, Spec::new("id", Kind::Int)], cells)), page(2, &["a"])];
     let (bytes, mut decoder, mut track) = (bytes_of(&frames), Decoder::new(Global, Limits::DEFAULT).unwrap(), PageTrack::default());
-    let (mut rest, mut seen) = (&bytes[..], Vec::new());
+    let (mut rest, mut seen, mut places) = (&bytes[..], Vec::new(), Vec::new());
     while let Step::Event { used, event, .. } = decoder.next(rest) {
         rest = &rest[used..];
         if matches!(event, Event::Leaf { .. } | Event::Null { .. } | Event::Enter { .. }) {
             seen.push(track.column().map(|column| (column.name.clone(), column.kind)));
         }
         track.take(&event).unwrap();
+        places.extend(track.place().map(|CellPlace { row, column }| (row, column, matches!(event, Event::Leave { .. }))));
         assert!(!track.is_bare());
     }
     let (tags, id, name) = (("tags", Kind::List), ("id", Kind::Int), ("name", Kind::Varchar));
     let wanted = [tags, tags, tags, id, tags, id, id, name].map(|(name, kind)| Some((name.to_string(), kind)));
     assert_eq!(seen, wanted);
+    let (items, end) = ((0, 0, false), (0, 0, true));
+    assert_eq!(places, [items, items, items, end, (0, 1, false), (1, 0, false), (1, 1, false), (0, 0, false), (0, 1, false)]);
 }
 
 /// A socket that takes some bytes and would wait then.

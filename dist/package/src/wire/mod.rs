@@ -12,7 +12,7 @@
 //! | [`AnyHeader`] | a header of any version, of which nothing is refused |
 //! | [`FrameReader`] | the bytes of a frame that become its value; [`Frame::to_bytes`](crate::frame::Frame::to_bytes) is the way back |
 //! | [`TextAlterer`] | frames that are written again with other texts |
-//! | [`PageTrack`] | the column of the bytes of a page that come next |
+//! | [`PageTrack`] | the column of the bytes of a page that come next, and the cell of the last event |
 //! | `KeepError` | a reader or a writer of std's that keeps the error of a call |
 //!
 //! None of them reads or writes a socket, but for `receive`, `send` and `wait`, which the feature `std` has: so they serve sockets that
@@ -80,5 +80,5 @@ pub use frames::{FRAME_LIMITS, FrameReader, Outbox, TextAlterer};
 pub use inbox::{Arrival, Inbox};
 #[cfg(feature = "std")]
 pub use keep_error::KeepError;
-pub use page_track::{PageTrack, TrackedColumn};
+pub use page_track::{CellPlace, PageTrack, TrackedColumn};
 pub use server::ServerSide;

@@ -17,10 +17,20 @@ pub struct TrackedColumn {
     pub kind: Kind,
 }
 
+/// Where a cell is in its page.
+#[derive(Clone, Copy, Debug, PartialEq, Eq, Hash)]
+pub struct CellPlace {
+    /// Its row, counted from 0.
+    pub row: u32,
+    /// Its column, in the order of the metadata.
+    pub column: u32,
+}
+
 /// Follows the events of frames that pass, and says of which column the bytes are that come next: so the cells of a column are altered as
 /// they pass, whatever the size of a page, and all else goes on as it came. A step of [`Decoder::next`](crate::Decoder::next) says how
 /// many bytes its event has; [`take`](PageTrack::take) is to be called after that, with the event, and
-/// [`column`](PageTrack::column) before, also where a piece ends within a cell.
+/// [`column`](PageTrack::column) before, also where a piece ends within a cell. Of a `Leave`, which names no cell,
+/// [`place`](PageTrack::place) says after it which one it was of.
 ///
 /// It holds the names of the columns of one page.
 #[derive(Clone, Debug, Default, PartialEq, Eq)]
@@ -30,6 +40,8 @@ pub struct PageTrack {
     named: Option<String>,
     /// The column of the next cell, within rows.
     next: Option<usize>,
+    /// The cell of the last event.
+    place: Option<CellPlace>,
     /// Whether the page has cells and did not describe its columns.
     is_bare: bool,
 }
@@ -39,6 +51,12 @@ impl PageTrack {
     #[must_use]
     pub fn column(&self) -> Option<&TrackedColumn> {
         self.columns.get(self.next?)
+    }
+
+    /// The cell that the last event was of. None where that was of no cell.
+    #[must_use]
+    pub fn place(&self) -> Option<CellPlace> {
+        self.place
     }
 
     /// Whether the present page has rows, and no metadata that would say what its columns are. A proxy that has to know them takes the
@@ -54,6 +72,15 @@ impl PageTrack {
     ///
     /// Memory that is refused, for the names of columns.
     pub fn take(&mut self, event: &Event<'_>) -> Result<(), NoMemory> {
+        self.place = match *event {
+            Event::Leaf { row, column, .. }
+            | Event::Null { row, column, .. }
+            | Event::Empty { row, column, .. }
+            | Event::Enter { row, column, .. }
+            | Event::Part { row, column, .. } => Some(CellPlace { row, column }),
+            Event::Leave { .. } => self.place,
+            _ => None,
+        };
         match *event {
             Event::Int { field: Field::MetaFlags, .. } => self.columns.clear(),
             Event::Text { field: Field::ColumnName, text } => {
