@@ -3,7 +3,7 @@
 capture, beside its lines, which lines.py reads in another way. Each object has to say what its line says, also with --utc and --ends and of those that --kind
 leaves, all the same first moment, and those of a
 connection the same ends; and each statement of the summary what its lines add up to, with --by each table, client, node, opcode and error, also as
-JSON, with --every each interval, and with --histogram the times of all."""
+JSON, with --every each interval, also as JSON, and with --histogram the times of all."""
 import collections
 import datetime
 import json
@@ -255,6 +255,7 @@ def is_of_kind(kind, of):
 
 
 EVERY = "begin per_s count errors unanswered rows bytes p50_ms p95_ms p99_ms max_ms".split()
+EVERY_KEYS = [name.removesuffix("_ms") for name in EVERY]
 
 
 def over_at(of):
@@ -265,8 +266,8 @@ def over_at(of):
     return int(moment.timestamp()) * 1_000_000_000 + int(of["utc"][20:-1]) + int(Decimal(of["took"]) * 1_000_000_000)
 
 
-def rows_every(width, objects):
-    """The rows of a summary by intervals of so many seconds: a request counts in the one in which it was over, or else in the last one so far."""
+def intervals(width, objects):
+    """The number of each interval of so many seconds, and what is counted in it: a request in the one in which it was over, or else in the last one so far."""
     found = []
     for of in objects:
         if of["told"] in ("exchange", "unanswered"):
@@ -275,13 +276,37 @@ def rows_every(width, objects):
             if not found or number is not None and (found[-1][0] is None or number > found[-1][0]):
                 found.append((number, nothing()))
             count_in(found[-1][1], of)
+    return found
+
+
+def rows_every(width, objects):
+    """The rows of a summary by intervals of so many seconds."""
     rows = []
-    for number, (numbers, times, _) in found:
+    for number, (numbers, times, _) in intervals(width, objects):
         begin = "-" if number is None else datetime.datetime.fromtimestamp(number * width, datetime.timezone.utc).strftime("%Y-%m-%dT%H:%M:%SZ")
         rate, ordered = numbers[0] * 1_000 // width, sorted(times)
         at = [percentile(ordered, hundredths) for hundredths in (50, 95, 99)] + [ordered[-1]] if ordered else []
         rows.append([begin, f"{rate // 1_000}.{rate % 1_000:03}", *map(str, numbers), *(map(milliseconds, at) if at else "----")])
     return rows
+
+
+def objects_every(width, objects):
+    """Its objects, a text each."""
+    texts = []
+    for number, (numbers, times, _) in intervals(width, objects):
+        begin = "null" if number is None else datetime.datetime.fromtimestamp(number * width, datetime.timezone.utc).strftime('"%Y-%m-%dT%H:%M:%S.000000000Z"')
+        rate, ordered = numbers[0] * 1_000 // width, sorted(times)
+        at = [f"{percentile(ordered, hundredths) / 10 ** 9:.9f}" for hundredths in (50, 95, 99)] + [f"{ordered[-1] / 10 ** 9:.9f}"] if ordered else ["null"] * 4
+        values = [begin, f"{rate // 1_000}.{rate % 1_000:03}", *map(str, numbers), *at]
+        texts.append("{" + ",".join(f'"{key}":{value}' for key, value in zip(EVERY_KEYS, values)) + "}")
+    return texts
+
+
+def row_of_interval(of):
+    """The row of the object of an interval."""
+    times = ["-" if of[key] is None else milliseconds(int(of[key] * 1_000_000_000)) for key in ("p50", "p95", "p99", "max")]
+    begin = "-" if of["begin"] is None else of["begin"].replace(".000000000", "")
+    return [begin, *(str(of[key]) for key in EVERY_KEYS[1:7]), *times]
 
 
 def histogram_of(objects):
@@ -351,6 +376,11 @@ def main(file, *command):
         rows, said_of_rows = written(command, file, "--summary", "--every", str(width))
         if said_of_rows != said or [row.split() for row in rows] != [EVERY, *rows_every(width, objects)]:
             print(f"every {width}: {rows}\n{rows_every(width, objects)}")
+        every, said_of_every = written(command, file, "--summary", "--every", str(width), "--json")
+        if said_of_every != said or every != objects_every(width, objects):
+            print(f"every {width} as JSON: {every}\n{objects_every(width, objects)}")
+        if [row_of_interval(json.loads(text, parse_float=Decimal)) for text in every] != [row.split() for row in rows[1:]]:
+            print(f"every {width}: {every}, and not {rows}")
 
 
 if __name__ == "__main__":

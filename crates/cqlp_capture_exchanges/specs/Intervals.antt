@@ -1,13 +1,16 @@
 -- Requests, counted by the interval of time in which they were over.
 use Rattle.std.specs.Prelude.{ℕ, true, List, [], Option, Some, None, if◌then◌else◌}
-use Rattle.cqlp_capture_summary.specs.Counts.{Request}
+use Rattle.cqlp_capture_summary.specs.Counts.{Request, Tally}
 use Rattle.cqlp_capture_summary.specs.Intervals.{interval_text, is_over, noted_in_interval}
 use Rattle.cqlp_capture_summary.specs.Summaries.{Summary}
-use Rattle.cqlp_capture_summary.specs.Tallies.{counted}
+use Rattle.cqlp_capture_summary.specs.Tallies.{counted, figures_of}
 use Rattle.cqlp_observer.specs.Keeping.{Kept}
 use Rattle.cqlp_observer.specs.declared.paired.Paired.{Paired}
 use Rattle.cqlp_observer.specs.declared.paired.Paired.TheVariants.{Exchange, Unanswered}
+use Rattle.cqlp_capture_exchanges.specs.declared.form.IntervalsAs.{IntervalsAs}
+use Rattle.cqlp_capture_exchanges.specs.declared.form.IntervalsAs.TheVariants as intervals_as
 use Rattle.cqlp_capture_exchanges.specs.declared.outcome.Outcome.{Outcome}
+use Rattle.cqlp_capture_exchanges.specs.IntervalObjects.{interval_object}
 use Rattle.cqlp_capture_exchanges.specs.Notings.{answered_by, request_as, unanswered}
 use Rattle.cqlp_capture_exchanges.specs.Reports.{Report, Messages, Unread}
 
@@ -43,11 +46,16 @@ noted_over seconds (Some o) s = noted_in_interval seconds (over_request o) s
 abbrev pub with_report_in_interval : (seconds : ℕ) → Report → Summary → Summary
 with_report_in_interval seconds r s = noted_over seconds (outcome_in r) s
 
--- ---- before it, the line of the interval that is over is written, or the line above all of them
+-- ---- before it, the interval that is over is written, or the line above all of them
 
-abbrev pub text_if_over : (seconds : ℕ) → Option Outcome → Summary → List ℕ
-text_if_over seconds None s = []
-text_if_over seconds (Some o) s = if is_over seconds (over_at o) s.others then interval_text seconds s.others else []
+-- as a line or as an object
+abbrev pub interval_as : IntervalsAs → (seconds : ℕ) → Tally → List ℕ
+interval_as intervals_as.Lines seconds t = interval_text seconds t
+interval_as intervals_as.Json seconds t = interval_object seconds (figures_of t)
 
-abbrev pub text_before : (seconds : ℕ) → Report → Summary → List ℕ
-text_before seconds r s = text_if_over seconds (outcome_in r) s
+abbrev pub text_if_over : IntervalsAs → (seconds : ℕ) → Option Outcome → Summary → List ℕ
+text_if_over shown seconds None s = []
+text_if_over shown seconds (Some o) s = if is_over seconds (over_at o) s.others then interval_as shown seconds s.others else []
+
+abbrev pub text_before : IntervalsAs → (seconds : ℕ) → Report → Summary → List ℕ
+text_before shown seconds r s = text_if_over shown seconds (outcome_in r) s

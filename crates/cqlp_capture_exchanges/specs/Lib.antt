@@ -19,8 +19,9 @@ pub mod DetailsObjects
 pub mod Objects
 pub mod Notings
 pub mod Histograms
-pub mod Intervals
 pub mod SummaryObjects
+pub mod IntervalObjects
+pub mod Intervals
 pub mod Forms
 pub mod Accounts
 pub mod Talks

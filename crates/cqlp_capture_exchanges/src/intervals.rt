@@ -2,11 +2,13 @@
 
 ghost use Rattle.std.specs.Prelude.{◌≡◌, [], None, Some};
 ghost use Rattle.cqlp_text.specs.Written.{Writes};
-ghost use Rattle.cqlp_capture_summary.specs.Intervals.{interval_text, noted_in_interval};
-ghost use Rattle.cqlp_capture_exchanges.specs.Intervals.{outcome_in, outcome_of, over_at, over_request, text_before, text_if_over};
+ghost use Rattle.cqlp_capture_summary.specs.Intervals.{noted_in_interval};
+ghost use Rattle.cqlp_capture_exchanges.specs.Intervals.{interval_as, outcome_in, outcome_of, over_at, over_request, text_before, text_if_over};
 ghost use Rattle.cqlp_capture_exchanges.specs.Intervals.{with_report_in_interval};
 ghost use Rattle.cqlp_capture_exchanges.specs.Reports.{report_of};
 
+use crate::form::IntervalsAs;
+use crate::interval_objects::put_interval_object;
 use crate::noting::{answered_by, unanswered};
 use crate::outcome::Outcome;
 use crate::report::Report;
@@ -14,7 +16,7 @@ use cqlp_capture_summary::{Occurrence, Summary};
 use cqlp_grammar::SinkFault;
 use cqlp_note::Target;
 use cqlp_observer::{Kept, Paired};
-use cqlp_text::{Buffered, TextWriter};
+use cqlp_text::{Buffered, Pen, TextWriter};
 use std::alloc::Allocator;
 
 /// What came of the request of a report, if it has one.
@@ -75,20 +77,21 @@ fn note_outcome<A: Allocator>(summary: &mut Summary<A>, seconds: u32, outcome: &
     summary.note_in_interval(seconds, &occurrence, outcome.is_answered, over_at(outcome));
 }
 
-/// Before the request of a report, takes the line of the interval that is over, or that above all lines, and passes it on.
+/// Before the request of a report, takes what is written of the interval that is over, or above all of them, and passes it on.
 #[tactic(auto, using(crate::proofs::Texts::nothing_taken))]
 pub(crate) fn put_if_over<W: Target, A: Allocator, B: Allocator>(
     writer: &mut TextWriter<Buffered<W, A>>,
+    shown: IntervalsAs,
     seconds: u32,
     summary: &Summary<A>,
     report: &Report<B>,
 ) -> Result<(), SinkFault>
     requires { writer.old.waiting ≡ [] }
-    ensures text { Writes writer.old (text_before seconds (report_of report.now) summary.now) result writer.new }
+    ensures text { Writes writer.old (text_before shown seconds (report_of report.now) summary.now) result writer.new }
     ensures passed { writer.new.waiting ≡ [] }
 {
     match outcome_in(report) {
-        Some(outcome) => put_before(writer, seconds, summary, &outcome),
+        Some(outcome) => put_before(writer, shown, seconds, summary, &outcome),
         None => Ok(()),
     }
 }
@@ -96,30 +99,46 @@ pub(crate) fn put_if_over<W: Target, A: Allocator, B: Allocator>(
 #[tactic(auto, using(crate::proofs::Texts::nothing_taken))]
 fn put_before<W: Target, A: Allocator>(
     writer: &mut TextWriter<Buffered<W, A>>,
+    shown: IntervalsAs,
     seconds: u32,
     summary: &Summary<A>,
     outcome: &Outcome,
 ) -> Result<(), SinkFault>
     requires { writer.old.waiting ≡ [] }
-    ensures text { Writes writer.old (text_if_over seconds (Some outcome.now) summary.now) result writer.new }
+    ensures text { Writes writer.old (text_if_over shown seconds (Some outcome.now) summary.now) result writer.new }
     ensures passed { writer.new.waiting ≡ [] }
 {
     if summary.is_over(seconds, over_at(outcome)) {
-        put_interval(writer, seconds, summary)
+        put_interval(writer, shown, seconds, summary)
     } else {
         Ok(())
     }
 }
 
-/// Takes the line of the interval that is counted, or that above all lines where none is, and passes it on.
+/// Takes what is written of the interval that is counted, or where none is above all of them, and passes it on.
 pub(crate) fn put_interval<W: Target, A: Allocator>(
     writer: &mut TextWriter<Buffered<W, A>>,
+    shown: IntervalsAs,
     seconds: u32,
     summary: &Summary<A>,
 ) -> Result<(), SinkFault>
-    ensures text { Writes writer.old (interval_text seconds summary.now.others) result writer.new }
+    ensures text { Writes writer.old (interval_as shown seconds summary.now.others) result writer.new }
     ensures passed { writer.new.waiting ≡ [] }
 {
-    summary.put_interval(writer, seconds)?;
+    put_as(writer, shown, seconds, summary)?;
     writer.pass_on()
+}
+
+fn put_as<P: Pen, A: Allocator>(
+    writer: &mut TextWriter<P>,
+    shown: IntervalsAs,
+    seconds: u32,
+    summary: &Summary<A>,
+) -> Result<(), SinkFault>
+    ensures { Writes writer.old (interval_as shown seconds summary.now.others) result writer.new }
+{
+    match shown {
+        IntervalsAs::Lines => summary.put_interval(writer, seconds),
+        IntervalsAs::Json => put_interval_object(writer, seconds, &summary.others()),
+    }
 }

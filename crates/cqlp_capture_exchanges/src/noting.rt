@@ -47,7 +47,7 @@ pub(crate) fn note<A: Allocator, B: Allocator>(
         ExchangeForm::Json(_) => {}
         ExchangeForm::Summary(by) => note_report(summary, by, known, connection, report),
         ExchangeForm::SummaryJson(by) => note_report(summary, by, known, connection, report),
-        ExchangeForm::Intervals(seconds) => note_in_interval(summary, seconds, report),
+        ExchangeForm::Intervals(seconds, _) => note_in_interval(summary, seconds, report),
         ExchangeForm::Histogram => note_by_time(summary, report),
     }
 }

@@ -248,7 +248,9 @@ fn put_report<W: Target, A: Allocator, B: Allocator>(
         }
         ExchangeForm::Summary(_) => Ok(()),
         ExchangeForm::SummaryJson(_) => Ok(()),
-        ExchangeForm::Intervals(seconds) => put_if_over(writer, seconds, summary, report),
+        ExchangeForm::Intervals(seconds, shown) => {
+            put_if_over(writer, shown, seconds, summary, report)
+        }
         ExchangeForm::Histogram => Ok(()),
     }
 }
@@ -269,7 +271,7 @@ fn put_ending<W: Target, A: Allocator>(
         ExchangeForm::Json(_) => Ok(()),
         ExchangeForm::Summary(by) => put_summary(writer, by.heading(), summary),
         ExchangeForm::SummaryJson(by) => put_objects(writer, by.heading(), summary),
-        ExchangeForm::Intervals(seconds) => put_interval(writer, seconds, summary),
+        ExchangeForm::Intervals(seconds, shown) => put_interval(writer, shown, seconds, summary),
         ExchangeForm::Histogram => put_histogram(writer, summary),
     }
 }

@@ -157,7 +157,10 @@ fn put_time_sums<P: Pen>(
     )
 }
 
-fn put_times<P: Pen>(writer: &mut TextWriter<P>, times: Option<Times>) -> Result<(), SinkFault>
+pub(crate) fn put_times<P: Pen>(
+    writer: &mut TextWriter<P>,
+    times: Option<Times>,
+) -> Result<(), SinkFault>
     ensures { Writes writer.old (texts (percentile_members times)) result writer.new }
 {
     match times {

@@ -22,7 +22,7 @@ const HEADER: &str =
 const EPOCH: u64 = 1 << 31;
 
 /// How many seconds an interval has.
-fn width_of(seconds: u32) -> u64
+pub fn width_of(seconds: u32) -> u64
     ensures width { result ≡ max seconds 1 }
     ensures least { 1 ≤ result }
     ensures most { result ≤ 4_294_967_295 }
@@ -38,7 +38,7 @@ fn interval_of(seconds: u32, time: u64) -> u64
 }
 
 /// The second at which the interval begins in which a time is.
-fn begin_of(seconds: u32, time: u64) -> u64
+pub fn begin_of(seconds: u32, time: u64) -> u64
     ensures begin { result ≡ begin_of seconds time }
     ensures most { result ≤ 18_446_744_073 }
 {

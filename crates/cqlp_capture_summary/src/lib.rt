@@ -23,6 +23,7 @@ mod written;
 
 pub use buckets::greatest_in;
 pub use fingerprint::Fingerprint;
+pub use intervals::{begin_of, width_of};
 pub use occurrence::Occurrence;
 pub use row::Row;
 pub use shown::put_shown_text;

@@ -188,9 +188,9 @@ IsExchangesForm rows (exchanges_as.Json values) =
     IsFlag (codes "summary") rows false × IsFlag (codes "json") rows true × AreLines rows plain × IsFlag (codes "values") rows values
 IsExchangesForm rows (exchanges_as.Summary b) = IsSummary false rows b × AreLines rows plain
 IsExchangesForm rows (exchanges_as.SummaryJson b) = IsSummary true rows b × AreLines rows plain
-IsExchangesForm rows (exchanges_as.Intervals n) =
+IsExchangesForm rows (exchanges_as.Intervals n is_json) =
     IsFlag (codes "summary") rows true × IsFlag (codes "histogram") rows false × IsNumber 32 (codes "every") rows (Some n)
-    × AreLines rows plain
+    × IsFlag (codes "json") rows is_json × AreLines rows plain
 IsExchangesForm rows exchanges_as.Histogram =
     IsFlag (codes "summary") rows true × IsFlag (codes "histogram") rows true × IsHistogramAlone false rows × AreLines rows plain
 

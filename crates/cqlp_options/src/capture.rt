@@ -116,7 +116,11 @@ pub enum ExchangesAs {
     /// Likewise a JSON object in a line.
     SummaryJson(SummaryBy),
     /// A line for each interval of so many seconds.
-    Intervals(u32),
+    Intervals {
+        seconds: u32,
+        /// Whether it is a JSON object.
+        json: bool,
+    },
     /// How many took how long, in ranges of time that double.
     Histogram,
 }
@@ -135,7 +139,10 @@ impl ExchangesAs {
                 return Ok(ExchangesAs::Histogram);
             }
             if let Some(seconds) = number(matches, "every") {
-                return Ok(ExchangesAs::Intervals(seconds));
+                return Ok(ExchangesAs::Intervals {
+                    seconds,
+                    json: is_json,
+                });
             }
             let by = SummaryBy::matched(matches)?;
             if is_json {

@@ -528,9 +528,9 @@ const CAPTURE: [Word; 31] = [
         name: "every",
         form: Form::Number("SECONDS", SECONDS),
         help: "With --summary, a line for each interval of so many seconds, from 1 to 86400, as soon as it is over: how many requests \
-            were over in it and how long they took; not with --by, --literal or --json",
+            were over in it and how long they took; not with --by or --literal",
         with: &["summary"],
-        without: &["by", "literal", "json", "streams", "events", "rows"],
+        without: &["by", "literal", "streams", "events", "rows"],
     },
     Word {
         name: "histogram",

@@ -31,6 +31,8 @@ use Rattle.cqlp_capture_exchanges.specs.declared.filter.ReplyKind.{ReplyKind}
 use Rattle.cqlp_capture_exchanges.specs.declared.filter.ReplyKind.TheVariants as reply_kind
 use Rattle.cqlp_capture_exchanges.specs.declared.form.ExchangeForm.{ExchangeForm}
 use Rattle.cqlp_capture_exchanges.specs.declared.form.ExchangeForm.TheVariants as form
+use Rattle.cqlp_capture_exchanges.specs.declared.form.IntervalsAs.{IntervalsAs}
+use Rattle.cqlp_capture_exchanges.specs.declared.form.IntervalsAs.TheVariants as intervals
 use Rattle.cqlp_capture_exchanges.specs.declared.form.ValuesShown.{ValuesShown}
 use Rattle.cqlp_capture_exchanges.specs.declared.form.ValuesShown.TheVariants as shown
 use Rattle.cqlp_capture_exchanges.specs.declared.form.LineStyle.{LineStyle}
@@ -131,13 +133,18 @@ values_shown false = shown.No
 abbrev pub style_of : AskedLines → (values : Bool) → LineStyle
 style_of asked values = record { is_utc = asked.utc; has_ends = asked.ends; values = values_shown values }
 
+-- how intervals are written
+abbrev pub intervals_as : (is_json : Bool) → IntervalsAs
+intervals_as true = intervals.Json
+intervals_as false = intervals.Lines
+
 -- and how they are written
 abbrev pub form_of : ExchangesAs → ExchangeForm
 form_of (asked_as.Lines lines values) = form.Lines (style_of lines values)
 form_of (asked_as.Json values) = form.Json (values_shown values)
 form_of (asked_as.Summary b) = form.Summary (summary_by b)
 form_of (asked_as.SummaryJson b) = form.SummaryJson (summary_by b)
-form_of (asked_as.Intervals seconds) = form.Intervals seconds
+form_of (asked_as.Intervals seconds is_json) = form.Intervals seconds (intervals_as is_json)
 form_of asked_as.Histogram = form.Histogram
 
 -- The input's exchanges that were asked for went to the output, with these texts of statements, and how it ended was reported with its status, after so

@@ -9,7 +9,7 @@ ghost use Rattle.cqlp_options.specs.declared.capture.CaptureTask.TheVariants as 
 ghost use Rattle.cqlp_tcp_connections.specs.Limits.{is_in_range};
 ghost use Rattle.cqlp_capture_streams.specs.declared.buffering.Buffering.TheVariants.{Line};
 ghost use Rattle.cqlp_tool.specs.Capturing.{DoesCaptureTask, DoesCaptureTaskKnowing, IsCaptureOfInput, SplitsToFolder, end_filter_of, filter_of};
-ghost use Rattle.cqlp_tool.specs.Capturing.{form_of, moment_of, reply_kind_of, statements_of, style_of, summary_by, values_shown};
+ghost use Rattle.cqlp_tool.specs.Capturing.{form_of, intervals_as, moment_of, reply_kind_of, statements_of, style_of, summary_by, values_shown};
 ghost use Rattle.cqlp_tool.specs.CommandLines.{Complains, DoesTask, Executes, Helps, NeedsNoInput, Performs, ReadsNoCapture};
 ghost use Rattle.cqlp_tool.specs.CommandLines.{ReportsFault, ReportsWrong, PrintsNoTask, form_of_events, form_of_rows, rules_for};
 ghost use Rattle.cqlp_tool.specs.Files.{DoesOn};
@@ -28,8 +28,8 @@ use crate::progress::Progress;
 use crate::statements::{put_no_texts, texts_for};
 use cqlp_capture_events::write_events;
 use cqlp_capture_exchanges::{
-    Attribute, EndFilter, ExchangeFilter, ExchangeForm, LineStyle, Moment, Naming, ReplyKind,
-    StatementPart, SummaryBy, ValuesShown, write_exchanges,
+    Attribute, EndFilter, ExchangeFilter, ExchangeForm, IntervalsAs, LineStyle, Moment, Naming,
+    ReplyKind, StatementPart, SummaryBy, ValuesShown, write_exchanges,
 };
 use cqlp_capture_merge::{FileNames, MergedAs, merge_summaries};
 use cqlp_capture_rows::write_rows;
@@ -541,8 +541,20 @@ fn form_of(asked: ExchangesAs) -> ExchangeForm
         ExchangesAs::Json { values } => ExchangeForm::Json(values_shown(values)),
         ExchangesAs::Summary(by) => ExchangeForm::Summary(summary_by(by)),
         ExchangesAs::SummaryJson(by) => ExchangeForm::SummaryJson(summary_by(by)),
-        ExchangesAs::Intervals(seconds) => ExchangeForm::Intervals(seconds),
+        ExchangesAs::Intervals { seconds, json } => {
+            ExchangeForm::Intervals(seconds, intervals_as(json))
+        }
         ExchangesAs::Histogram => ExchangeForm::Histogram,
+    }
+}
+
+fn intervals_as(is_json: bool) -> IntervalsAs
+    ensures { result ≡ intervals_as is_json }
+{
+    if is_json {
+        IntervalsAs::Json
+    } else {
+        IntervalsAs::Lines
     }
 }
 

@@ -5,7 +5,8 @@
 use crate::cqlp_tcp_connections::Way;
 use crate::cqlp_capture_events::write_events;
 use crate::cqlp_capture_rows::write_rows;
-use crate::cqlp_capture_exchanges::{Attribute, ExchangeFilter, ExchangeForm, ExchangeLimits, LineStyle, Naming, SummaryBy, ValuesShown, write_exchanges};
+use crate::cqlp_capture_exchanges::{Attribute, ExchangeFilter, ExchangeForm, ExchangeLimits, IntervalsAs, LineStyle, Naming, SummaryBy, ValuesShown};
+use crate::cqlp_capture_exchanges::write_exchanges;
 use crate::cqlp_note::{IoFault, OfStd, Source};
 use crate::cqlp_capture_streams::{Buffering, CaptureInput, FileFault, StreamFile, StreamFiles, StreamsLimits, write_streams};
 use crate::heap::measured;
@@ -249,8 +250,11 @@ fn changed_captures() {
         let by = numbers.one_of(&[SummaryBy::Table, attribute]);
         let by = exchanges(&file, most, ports, ExchangeFilter::ALL, ExchangeForm::Summary(by));
         assert_eq!((by.0, &by.2), (lines.0, &lines.2));
-        let every = exchanges(&file, most, ports, ExchangeFilter::ALL, ExchangeForm::Intervals(numbers.one_of(&[0, 1, 60, 86_400])));
+        let seconds = numbers.one_of(&[0, 1, 60, 86_400]);
+        let [every, every_object] = [IntervalsAs::Lines, IntervalsAs::Json]
+            .map(|shown| exchanges(&file, most, ports, ExchangeFilter::ALL, ExchangeForm::Intervals(seconds, shown)));
         assert_eq!((every.0, &every.2), (lines.0, &lines.2));
+        assert_eq!((every_object.0, every_object.1.lines().count() + 1, &every_object.2), (lines.0, every.1.lines().count(), &lines.2));
         (2..=6).for_each(|column| assert_eq!([&by, &every].map(|other| sum_of(other, column)), [sum_of(&summary, column); 2]));
         assert_eq!(events(&file, most, ports), events(&file, usize::MAX, ports));
         let connection = 1 + numbers.below(20) as u64;

@@ -30,6 +30,15 @@ impl LineStyle {
     };
 }
 
+/// How intervals are written.
+#[derive(Clone, Copy)]
+pub enum IntervalsAs {
+    /// A line for each, below one with the names of its columns.
+    Lines,
+    /// A JSON object in a line for each.
+    Json,
+}
+
 /// How exchanges are written.
 #[derive(Clone, Copy)]
 pub enum ExchangeForm {
@@ -43,7 +52,7 @@ pub enum ExchangeForm {
     SummaryJson(SummaryBy),
     /// A line for each interval of so many seconds, at least one, as soon as it is over: how many requests were over in it, and how long they took. The summary
     /// has no places, and takes 23,664 bytes.
-    Intervals(u32),
+    Intervals(u32, IntervalsAs),
     /// At the end of the capture how many requests took how long, in ranges of time that double. The summary has no places.
     Histogram,
 }
@@ -56,7 +65,7 @@ impl ExchangeForm {
             ExchangeForm::Json(_) => 0,
             ExchangeForm::Summary(_) => 256,
             ExchangeForm::SummaryJson(_) => 256,
-            ExchangeForm::Intervals(_) => 0,
+            ExchangeForm::Intervals(_, _) => 0,
             ExchangeForm::Histogram => 0,
         }
     }

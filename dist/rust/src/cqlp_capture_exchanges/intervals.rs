@@ -1,6 +1,8 @@
 // Written by dist/erase from crates/cqlp_capture_exchanges/src/intervals.rt.
 //! Requests with what came of them, counted by the interval of time in which they were over.
 
+use crate::cqlp_capture_exchanges::form::IntervalsAs;
+use crate::cqlp_capture_exchanges::interval_objects::put_interval_object;
 use crate::cqlp_capture_exchanges::noting::{answered_by, unanswered};
 use crate::cqlp_capture_exchanges::outcome::Outcome;
 use crate::cqlp_capture_exchanges::report::Report;
@@ -8,7 +10,7 @@ use crate::cqlp_capture_summary::{Occurrence, Summary};
 use crate::cqlp_grammar::SinkFault;
 use crate::cqlp_note::Target;
 use crate::cqlp_observer::{Kept, Paired};
-use crate::cqlp_text::{Buffered, TextWriter};
+use crate::cqlp_text::{Buffered, Pen, TextWriter};
 use crate::kit_std::alloc::Allocator;
 
 /// What came of the request of a report, if it has one.
@@ -60,38 +62,53 @@ fn note_outcome<A: Allocator>(summary: &mut Summary<A>, seconds: u32, outcome: &
     summary.note_in_interval(seconds, &occurrence, outcome.is_answered, over_at(outcome));
 }
 
-/// Before the request of a report, takes the line of the interval that is over, or that above all lines, and passes it on.
+/// Before the request of a report, takes what is written of the interval that is over, or above all of them, and passes it on.
 pub(crate) fn put_if_over<W: Target, A: Allocator, B: Allocator>(
     writer: &mut TextWriter<Buffered<W, A>>,
+    shown: IntervalsAs,
     seconds: u32,
     summary: &Summary<A>,
     report: &Report<B>,
 ) -> Result<(), SinkFault> {
     match outcome_in(report) {
-        Some(outcome) => put_before(writer, seconds, summary, &outcome),
+        Some(outcome) => put_before(writer, shown, seconds, summary, &outcome),
         None => Ok(()),
     }
 }
 
 fn put_before<W: Target, A: Allocator>(
     writer: &mut TextWriter<Buffered<W, A>>,
+    shown: IntervalsAs,
     seconds: u32,
     summary: &Summary<A>,
     outcome: &Outcome,
 ) -> Result<(), SinkFault> {
     if summary.is_over(seconds, over_at(outcome)) {
-        put_interval(writer, seconds, summary)
+        put_interval(writer, shown, seconds, summary)
     } else {
         Ok(())
     }
 }
 
-/// Takes the line of the interval that is counted, or that above all lines where none is, and passes it on.
+/// Takes what is written of the interval that is counted, or where none is above all of them, and passes it on.
 pub(crate) fn put_interval<W: Target, A: Allocator>(
     writer: &mut TextWriter<Buffered<W, A>>,
+    shown: IntervalsAs,
     seconds: u32,
     summary: &Summary<A>,
 ) -> Result<(), SinkFault> {
-    summary.put_interval(writer, seconds)?;
+    put_as(writer, shown, seconds, summary)?;
     writer.pass_on()
+}
+
+fn put_as<P: Pen, A: Allocator>(
+    writer: &mut TextWriter<P>,
+    shown: IntervalsAs,
+    seconds: u32,
+    summary: &Summary<A>,
+) -> Result<(), SinkFault> {
+    match shown {
+        IntervalsAs::Lines => summary.put_interval(writer, seconds),
+        IntervalsAs::Json => put_interval_object(writer, seconds, &summary.others()),
+    }
 }

@@ -132,7 +132,10 @@ fn put_time_sums<P: Pen>(
     )
 }
 
-fn put_times<P: Pen>(writer: &mut TextWriter<P>, times: Option<Times>) -> Result<(), SinkFault> {
+pub(crate) fn put_times<P: Pen>(
+    writer: &mut TextWriter<P>,
+    times: Option<Times>,
+) -> Result<(), SinkFault> {
     match times {
         Some(times) => put_known_times(writer, times),
         None => put_members(

@@ -16,7 +16,7 @@ const HEADER: &str =
 const EPOCH: u64 = 1 << 31;
 
 /// How many seconds an interval has.
-fn width_of(seconds: u32) -> u64 {
+pub fn width_of(seconds: u32) -> u64 {
     u64::from(seconds.max(1))
 }
 
@@ -26,7 +26,7 @@ fn interval_of(seconds: u32, time: u64) -> u64 {
 }
 
 /// The second at which the interval begins in which a time is.
-fn begin_of(seconds: u32, time: u64) -> u64 {
+pub fn begin_of(seconds: u32, time: u64) -> u64 {
     interval_of(seconds, time) * width_of(seconds)
 }
 

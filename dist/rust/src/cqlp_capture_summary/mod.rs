@@ -22,6 +22,7 @@ mod written;
 
 pub(crate) use buckets::{greatest_in};
 pub use fingerprint::Fingerprint;
+pub use intervals::{begin_of, width_of};
 pub use occurrence::Occurrence;
 pub use row::Row;
 pub use shown::put_shown_text;

@@ -12,8 +12,8 @@ use crate::cqlp_tool::progress::Progress;
 use crate::cqlp_tool::statements::{put_no_texts, texts_for};
 use crate::cqlp_capture_events::write_events;
 use crate::cqlp_capture_exchanges::{
-    Attribute, EndFilter, ExchangeFilter, ExchangeForm, LineStyle, Moment, Naming, ReplyKind,
-    StatementPart, SummaryBy, ValuesShown, write_exchanges,
+    Attribute, EndFilter, ExchangeFilter, ExchangeForm, IntervalsAs, LineStyle, Moment, Naming,
+    ReplyKind, StatementPart, SummaryBy, ValuesShown, write_exchanges,
 };
 use crate::cqlp_capture_merge::{FileNames, MergedAs, merge_summaries};
 use crate::cqlp_capture_rows::write_rows;
@@ -448,8 +448,18 @@ fn form_of(asked: ExchangesAs) -> ExchangeForm {
         ExchangesAs::Json { values } => ExchangeForm::Json(values_shown(values)),
         ExchangesAs::Summary(by) => ExchangeForm::Summary(summary_by(by)),
         ExchangesAs::SummaryJson(by) => ExchangeForm::SummaryJson(summary_by(by)),
-        ExchangesAs::Intervals(seconds) => ExchangeForm::Intervals(seconds),
+        ExchangesAs::Intervals { seconds, json } => {
+            ExchangeForm::Intervals(seconds, intervals_as(json))
+        }
         ExchangesAs::Histogram => ExchangeForm::Histogram,
+    }
+}
+
+fn intervals_as(is_json: bool) -> IntervalsAs {
+    if is_json {
+        IntervalsAs::Json
+    } else {
+        IntervalsAs::Lines
     }
 }
 

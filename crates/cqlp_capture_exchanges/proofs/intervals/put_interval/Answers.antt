@@ -3,4 +3,4 @@ use Rattle.cqlp_text.proofs.Writing.{progress_starts, progress_goes_on, progress
 use Rattle.cqlp_capture_exchanges.proofs.intervals.put_interval.Goals as goal
 
 pub returns-clause-text : goal.returns-clause-text
-returns-clause-text g c = progress_writes _ c.pass_on.result (progress_goes_on _ (progress_starts _ _) (sym (append-nil _)) c.in_ok-put_interval.ensures) c.pass_on.ensures.writes
+returns-clause-text g c = progress_writes _ c.pass_on.result (progress_goes_on _ (progress_starts _ _) (sym (append-nil _)) c.in_ok-put_as.ensures) c.pass_on.ensures.writes
