@@ -15,6 +15,8 @@ record       a record whose length is the greatest that its field can say
 batches      BATCHes and what answers them: of no statement, of a text and an id, of a statement that was prepared, of a long text, of a kind of statement
              that there is none of, and one that is compressed
 prepared     one connection, on which statements are prepared and executed, and pages come that describe no columns
+elsewhere    three connections: on one statements are executed, and pages come that describe no columns, and most were prepared on the others
+too-often    one connection, on which statements are executed, of which more were prepared on others than are known, or come at one time
 statements   one connection, on which 300 statements are prepared, each with as many columns as are known, and executed
 flight       one connection, on which 100 requests are sent before the first of their 100 responses
 parted       one connection with an exchange under stream id 0 and one under id COUNT, whose request is in the file before the response to the first, which
@@ -263,6 +265,90 @@ def many_statements():
         yield from [(False, execute(1, name)), (True, bare_page(1, b"\0\0\0\7"))]
 
 
+class Connections:
+    """Messages, or pieces of them, each in a packet of its own, of connections by their numbers."""
+
+    def __init__(self):
+        self.sent = {}
+
+    def sends(self, number, is_response, message, lost=0):
+        """A packet, before which so many bytes are lost, which the other side says it has."""
+        at = self.sent.get((number, is_response), 1) + lost
+        self.sent[number, is_response] = at + len(message)
+        yield record(segment(0x0A010000, 10_000 + number, at, message, is_response))
+        if lost:
+            yield record(segment(0x0A010000, 10_000 + number, self.sent.get((number, not is_response), 1), b"", not is_response, at + len(message), ACK))
+
+    def answers(self, stream, name, *row):
+        """Connection 1 has a page for an EXECUTE."""
+        yield from self.sends(1, False, execute(stream, name))
+        yield from self.sends(1, True, bare_page(stream, *row))
+
+
+def prepared_elsewhere():
+    """Statements are prepared on connections 2 and 3, and executed on connection 1."""
+    seven, int_and_text, blob_and_boolean = b"\0\0\0\7", [b"\0\x09", b"\0\x0d"], [b"\0\x03", b"\0\x04"]
+    names, long_name, to = [bytes([i, i]) for i in range(12)], b"n" * 65, Connections()
+    message = {name: prepared(0, name, int_and_text) for name in [*names, long_name]}
+    other = {name: prepared(0, name, blob_and_boolean) for name in names}
+    for number in (1, 2, 3):
+        yield from to.sends(number, False, query(9))
+    yield from to.answers(1, names[1], seven, b"x")
+    yield from to.sends(2, True, message[names[1]])
+    yield from to.answers(2, names[1], seven, b"x")
+    yield from to.sends(1, False, execute(3, names[2]))
+    yield from to.sends(3, True, message[names[2]])
+    yield from to.sends(1, True, bare_page(3, seven, b"x"))
+    yield from to.sends(1, True, other[names[3]])
+    yield from to.sends(2, True, message[names[3]])
+    yield from to.answers(4, names[3], seven, b"\1")
+    yield from to.sends(2, True, message[names[4]])
+    yield from to.sends(3, True, other[names[4]])
+    yield from to.answers(5, names[4], seven, b"\0")
+    for one, two in zip(message[names[5]], other[names[6]]):
+        yield from to.sends(2, True, bytes([one]))
+        yield from to.sends(3, True, bytes([two]))
+    yield from to.answers(6, names[5], seven, b"x")
+    yield from to.answers(7, names[6], seven, b"\1")
+    announced = bytes(16) + b"\0\1\0\1!" + b"\0\1\0\1k" + struct.pack(">i", 1) + b"v"
+    for one in (page(1, struct.pack(">ii", 4, 1), [(seven,)]), frame(0x84, 0x0E, 0, 0x08, announced + message[names[7]][9:]), frame(0x84, 0, 0, 0x08, b"")):
+        yield from to.sends(2, True, one)
+    yield from to.answers(8, names[7], seven, b"x")
+    yield from to.sends(2, True, b"\x84\1" + message[names[8]][2:])
+    yield from to.answers(9, names[8], seven, b"x")
+    yield from to.sends(2, True, message[names[9]][:-1] + b"\xff")
+    yield from to.answers(10, names[9], seven, b"x")
+    yield from to.sends(2, True, message[names[10]][:20])
+    yield from to.sends(2, True, message[names[10]][24:], 4)
+    yield from to.answers(11, names[10], seven, b"x")
+    yield from to.sends(2, True, message[names[10]])
+    yield from to.answers(12, names[10], seven, b"x")
+    yield from to.sends(2, True, message[long_name])
+    yield from to.answers(13, long_name, seven, b"x")
+    for stream, length in ((14, 65_537), (15, 65_536)):
+        for piece in pieces(frame(0x84, 0, 0, 0x08, message[names[11]][9:].ljust(length, b"\0"))):
+            yield from to.sends(2, True, piece)
+        yield from to.answers(stream, names[11], seven, b"x")
+
+
+def prepared_too_often():
+    """257 statements are prepared on connection 2, of which a page uses the first one; and then one on each of 65 connections at one time."""
+    seven, kinds, name, to = b"\0\0\0\7", [b"\0\x09", b"\0\x0d"], struct.Struct(">H").pack, Connections()
+    yield from to.sends(1, False, query(9))
+    for i in range(257):
+        yield from to.sends(2, True, prepared(0, name(i), kinds))
+        if i == 255:
+            yield from to.answers(1, name(0), seven, b"x")
+    for stream in (2, 3, 4):
+        yield from to.answers(stream, name(stream - 2), seven, b"x")
+    messages = [prepared(0, name(i), kinds) for i in range(257, 322)]
+    for begin, end in ((0, 30), (30, None)):
+        for i, message in enumerate(messages):
+            yield from to.sends(3 + i, True, message[begin:end])
+    for stream in (5, 6):
+        yield from to.answers(stream, name(252 + stream), seven, b"x")
+
+
 def packets():
     for i in range(512):
         longest = b"\x4f" + b"\xff" * 262_143
@@ -498,6 +584,7 @@ def capture(kind, *count):
         return of_pcap(wraps(), 1)
     made = {"connections": connections, "lost": lost, "requests": requests, "contents": contents, "pages": pages, "packets": packets,
             "prepared": lambda: in_turn(statements_in_turn()), "statements": lambda: in_turn(many_statements()),
+            "elsewhere": prepared_elsewhere, "too-often": prepared_too_often,
             "crowd": crowd, "laden": laden, "deep": deep, "scattered": scattered, "headers": headers, "addresses": from_addresses, "record": greatest_record,
             "batches": batches, "flight": flight, "versions": versions, "tls": tls, "parted": parted}[kind]
     return of_pcap(made(*map(int, count)))

@@ -35,6 +35,10 @@ abbrev pub executed : (stream : ℤ) (id : List ℕ) → Keeping → Keeping
 executed stream id p =
     option_map_or (λ i. keeping (used (bytes_eq i) p.known) (put int_eq stream i p.awaited)) (short_enough id) (answered stream p)
 
+-- A statement is used, if it is known.
+abbrev pub noted : (id : List ℕ) → Keeping → Keeping
+noted id p = keeping (used (bytes_eq id) p.known) p.awaited
+
 -- the statement that the EXECUTE names which waits under a stream id
 abbrev pub named_under : (stream : ℤ) → Keeping → Option (List ℕ)
 named_under stream p = lookup (int_eq stream) p.awaited.entries

@@ -11,6 +11,7 @@ mod statement_id;
 mod statement_types;
 
 pub use error::NewPreparedError;
+pub use latest::Latest;
 pub use prepared_types::PreparedTypes;
 pub use requests::Requests;
 pub use statement_id::StatementId;

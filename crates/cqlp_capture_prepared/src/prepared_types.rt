@@ -31,7 +31,7 @@ impl<A: Allocator> Model for PreparedTypes<A> {
 }
 
 impl<A: Allocator> PreparedTypes<A> {
-    ghost use Rattle.cqlp_capture_prepared.specs.Keeping.{answered, executed, named_under, new_keeping, types_of};
+    ghost use Rattle.cqlp_capture_prepared.specs.Keeping.{answered, executed, named_under, new_keeping, noted, types_of};
 
     /// Says that an EXECUTE under this stream id names the statement with this id. It takes the place of one that waits under the same stream
     /// id, and where too many wait, of the one that waits longest. An id of more than [`StatementId::MOST`] bytes names nothing that is known.
@@ -69,6 +69,13 @@ impl<A: Allocator> PreparedTypes<A> {
     {
         let types = self.known.get(id)?;
         Some(&types.table)
+    }
+
+    /// Says that the statement with this id is used, as by an EXECUTE that names it.
+    pub fn note_use(&mut self, id: &StatementId)
+        ensures { self.new ≡ noted id.now self.old }
+    {
+        self.known.touch(id);
     }
 
     /// Begins with another connection, of which nothing is known, with the memory for both lists that it has.

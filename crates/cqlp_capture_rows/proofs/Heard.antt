@@ -15,7 +15,8 @@ use Rattle.cqlp_capture_frames.specs.Directions.{Direction, IsReported, Reportin
 use Rattle.cqlp_capture_frames.specs.Faults.{Takes}
 use Rattle.cqlp_capture_frames.specs.Reportings.{is_memory}
 use Rattle.cqlp_capture_rows.specs.Responses.{Responses}
-use Rattle.cqlp_capture_rows.specs.Listening.{Change, Changes, Hears, Listening, answer_of, change_of, heard, heard_of, hears_responses, if_asked, listening, with_connection_event}
+use Rattle.cqlp_capture_rows.specs.OtherConnections.{OtherConnections}
+use Rattle.cqlp_capture_rows.specs.Listening.{Change, Changes, Hears, Listening, answer_of, change_of, heard, heard_of, hears_responses, if_asked, listening, overheard, with_connection_event}
 
 -- it is still known what the output was given
 still_known : (given : Option (List ℕ)) (text : List ℕ) → IsSome given → IsSome (append_known given text)
@@ -49,14 +50,14 @@ pub taken : {S : Type 0} (t : Reporting S) (put : Result (Unit {0}) ReportFault)
 taken t (Ok u) w v d known a = a.0
 taken t (Err e) w v d known a = a
 
-pub changes_so : (asked : ℕ) (requests : Requests) (direction direction' : Direction) (old new : Responses) (w mid v : Written) (t : Reporting Responses) (put r : Result (Unit {0}) ReportFault) → w.waiting ≡ [] → IsSome w.given → IsReported is_memory t put w mid direction' new → ((before : Written) (text : List ℕ) → Takes is_memory before text put mid → Takes is_memory before text r v) → ((before : Written) (text : List ℕ) → Takes is_memory before text put mid → v.waiting ≡ []) → OnOk r (put ≡ Ok tt)
-    → Changes (listening asked requests direction old (output w.given w.failures)) (hears_responses requests t) (answer_of r) (listening asked requests direction' new (output v.given v.failures))
-changes_so asked requests direction direction' old new w mid v t put (Ok u) none known reported on empty ok =
+pub changes_so : (asked : ℕ) (requests : Requests) (direction direction' : Direction) (old new : Responses) (others : OtherConnections) (w mid v : Written) (t : Reporting Responses) (put r : Result (Unit {0}) ReportFault) → w.waiting ≡ [] → IsSome w.given → IsReported is_memory t put w mid direction' new → ((before : Written) (text : List ℕ) → Takes is_memory before text put mid → Takes is_memory before text r v) → ((before : Written) (text : List ℕ) → Takes is_memory before text put mid → v.waiting ≡ []) → OnOk r (put ≡ Ok tt)
+    → Changes (listening asked requests direction old others (output w.given w.failures)) (hears_responses t (listening asked requests direction old others (output w.given w.failures))) (answer_of r) (listening asked requests direction' new others (output v.given v.failures))
+changes_so asked requests direction direction' old new others w mid v t put (Ok u) none known reported on empty ok =
     let takes = taken t put w mid direction' new reported in
     let all = subst (λ (z : Result (Unit {0}) ReportFault). IsReported is_memory t z w mid direction' new) ok reported in
     let text = passed_on w v t.text none (empty w t.text takes) known (on w t.text takes) in
-    λ i. listening asked requests (all.1 i) (all.2 i) (text i)
-changes_so asked requests direction direction' old new w mid v t put (Err why.Write) none known reported on empty ok =
+    λ i. listening asked requests (all.1 i) (all.2 i) others (text i)
+changes_so asked requests direction direction' old new others w mid v t put (Err why.Write) none known reported on empty ok =
     let takes = taken t put w mid direction' new reported in
     let breaks = on w t.text takes in
     let at = known_at w.given known in
@@ -69,17 +70,17 @@ changes_so asked requests direction direction' old new w mid v t put (Err why.Wr
       given = p.1 ∙ sym (ap (λ (g : Option (List ℕ)). append_known g p.0) at.1);
       failures = breaks.failures;
     }
-changes_so asked requests direction direction' old new w mid v t put (Err why.NoMemory) none known reported on empty ok =
+changes_so asked requests direction direction' old new others w mid v t put (Err why.NoMemory) none known reported on empty ok =
     let takes = taken t put w mid direction' new reported in
     let front = on w t.text takes in
     (front.0, front.1, front.2, passed_on w v front.0 none (empty w t.text takes) known front.3)
 
 -- of the connection that is asked for
-pub change_asked : (old new : Listening) (number : ℕ) (x : Change) (r : Result (Unit {0}) StreamsFault) → number ≡ old.asked → Changes old x r new → Changes old (if_asked number x old) r new
-change_asked old new number x r is a = rw (eq-eqb number old.asked is) a
+pub change_asked : (old new : Listening) (number : ℕ) (x y : Change) (r : Result (Unit {0}) StreamsFault) → number ≡ old.asked → Changes old x r new → Changes old (if_asked number x y old) r new
+change_asked old new number x y r is a = rw (eq-eqb number old.asked is) a
 
 -- ---- what a direction delivers
 
-pub hears_of : (old new : Listening) (t : Delivery) (b : List ℕ) (way : Way) (r : Result (Unit {0}) StreamsFault) → t.number ≡ old.asked → t.way ≡ way → Changes old (heard_of way t b old.requests old.direction old.responses) r new → Hears old (Of t b) r new
+pub hears_of : (old new : Listening) (t : Delivery) (b : List ℕ) (way : Way) (r : Result (Unit {0}) StreamsFault) → t.number ≡ old.asked → t.way ≡ way → Changes old (heard_of way t b old) r new → Hears old (Of t b) r new
 hears_of old new t b way r number is a =
-    change_asked old new t.number (heard t b old.requests old.direction old.responses) r number (subst (λ (w : Way). Changes old (heard_of w t b old.requests old.direction old.responses) r new) (sym is) a)
+    change_asked old new t.number (heard t b old) (overheard t b old) r number (subst (λ (w : Way). Changes old (heard_of w t b old) r new) (sym is) a)

@@ -1,5 +1,8 @@
 pub mod Spots
 pub mod Pages
+pub mod Frames
+pub mod Others
+pub mod OtherConnections
 pub mod Responses
 pub mod Listening
 pub mod Capturing

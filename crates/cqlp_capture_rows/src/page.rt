@@ -84,7 +84,7 @@ impl Page {
 }
 
 /// Keeps the id of a statement, if an event says one.
-fn note_id(id: &mut Option<StatementId>, event: &Event<'_>)
+pub(crate) fn note_id(id: &mut Option<StatementId>, event: &Event<'_>)
     ensures { id.new ≡ id_after id.old (event_of event.now) }
 {
     if let Event::Bytes {

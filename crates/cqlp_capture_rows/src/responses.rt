@@ -2,20 +2,24 @@
 
 ghost use Rattle.std.specs.Prelude.{◌≡◌, true, IfErr, IfOk, IsSome, OnErr, OnOk, option_map};
 ghost use Rattle.cqlp_text.specs.Written.{Writes};
-ghost use Rattle.cqlp_capture_prepared.specs.Keeping.{new_keeping};
+ghost use Rattle.cqlp_capture_prepared.specs.Keeping.{answered, named_under, new_keeping};
 ghost use Rattle.cqlp_capture_prepared.specs.Requests.{asked, step_asked};
 ghost use Rattle.cqlp_capture_rows.specs.Pages.{cut_text, no_rows};
 ghost use Rattle.cqlp_capture_frames.specs.Lines.{line_place};
 ghost use Rattle.cqlp_capture_rows.specs.Spots.{spot};
-ghost use Rattle.cqlp_capture_rows.specs.Responses.{is_result, known_by, new_responses, with_known, with_page};
+ghost use Rattle.cqlp_capture_rows.specs.Frames.{is_result};
+ghost use Rattle.cqlp_capture_rows.specs.Responses.{known_by, new_responses, page_types, types_known, used_in, with_known, with_others, with_page};
+ghost use Rattle.cqlp_capture_rows.specs.OtherConnections.{overheard, overhears};
 
 use crate::limits::{EXECUTES, STATEMENTS};
+use crate::other_connections::OtherConnections;
+use crate::other_types::OtherTypes;
 use crate::page::Page;
 use crate::spot::{FrameSpot, Spot};
 use cqlp_capture_frames::{
     LinePlace, ReportFault, Transcript, put_compressed, put_gap, put_refused, put_unread,
 };
-use cqlp_capture_prepared::{NewPreparedError, PreparedTypes, Requests};
+use cqlp_capture_prepared::{NewPreparedError, PreparedTypes, Requests, StatementId};
 use cqlp_grammar::{Event, SinkFault};
 use cqlp_note::{Header, NoMemory, Opcode, Reason};
 use cqlp_tcp_reassembly::{GapCause, StreamStep};
@@ -39,6 +43,7 @@ pub(crate) struct Responses<A: Allocator = Global> {
     /// The number of the connection.
     number: u64,
     known: PreparedTypes<A>,
+    others: OtherTypes<A>,
     /// Where the frame that began last begins, and its header.
     begun: FrameSpot,
     /// What it said of a page.
@@ -50,7 +55,7 @@ impl<A: Allocator> Model for Responses<A> {
 
     ghost Value = { Responses };
 
-    ghost view = { λ r. responses r.number r.known r.begun r.page };
+    ghost view = { λ r. responses r.number r.known r.others r.begun r.page };
 }
 
 impl<A: Allocator + Clone> Responses<A> {
@@ -58,10 +63,12 @@ impl<A: Allocator + Clone> Responses<A> {
     pub(crate) fn new(alloc: A, number: u64) -> Result<Self, AllocError>
         ensures { IfOk result (λ r. r ≡ new_responses number (new_keeping STATEMENTS EXECUTES)) }
     {
+        let others = OtherTypes::new(alloc.clone()?)?;
         match PreparedTypes::new(alloc, STATEMENTS, EXECUTES) {
             Ok(known) => Ok(Responses {
                 number,
                 known,
+                others,
                 begun: FrameSpot {
                     spot: Spot { number, at: 0 },
                     header: NO_HEADER,
@@ -110,6 +117,65 @@ impl<A: Allocator> Responses<A> {
         let cut = self.page.put_cut(writer);
         self.page = Page::new();
         cut
+    }
+
+    /// Takes what the responses of another connection deliver, with its bytes: what is known of statements changes by that.
+    pub(crate) fn hear_others(
+        &mut self,
+        number: u64,
+        step: StreamStep,
+        bytes: &[u8],
+        connections: &mut OtherConnections<A>,
+    ) -> Result<(), NoMemory>
+    where
+        A: Clone,
+        ensures known { OnOk result
+            (overheard connections.new self.new.others ≡ overhears number step bytes.now connections.old self.old.others) }
+        ensures others { self.new ≡ with_others self.new.others self.old }
+    {
+        connections.hear(number, step, bytes, &mut self.others)
+    }
+
+    /// Says that a response came under this stream id, and copies the types of the statement that the EXECUTE names which waits under it. Memory is
+    /// asked for only where there are types.
+    fn types_for(&mut self, stream: i16) -> Result<Option<TypeTable<A>>, NoMemory>
+    where
+        A: Clone,
+        ensures is { IfOk result (λ types. option_map (λ table. table.nodes) types ≡ page_types stream self.old) }
+        ensures left { self.new ≡ with_others (used_in (named_under stream self.old.known) self.old.others)
+            (with_known (answered stream self.old.known) self.old) }
+        ensures asks { OnErr result (IsSome (page_types stream self.old)) }
+    {
+        match self.known.answered(stream) {
+            Some(id) => {
+                let types = self.copy_of(&id);
+                self.others.note_use(&id);
+                types
+            }
+            None => Ok(None),
+        }
+    }
+
+    fn copy_of(&self, id: &StatementId) -> Result<Option<TypeTable<A>>, NoMemory>
+    where
+        A: Clone,
+        ensures is { IfOk result (λ types. option_map (λ table. table.nodes) types ≡ types_known id.now self.now) }
+        ensures asks { OnErr result (IsSome (types_known id.now self.now)) }
+    {
+        match self.types_of(id) {
+            Some(types) => Ok(Some(types.clone_table()?)),
+            None => Ok(None),
+        }
+    }
+
+    /// The types of a statement, by its own connection first.
+    fn types_of(&self, id: &StatementId) -> Option<&TypeTable<A>>
+        ensures { option_map (λ table. table.now.nodes) result ≡ types_known id.now self.now }
+    {
+        match self.known.types_of(id) {
+            Some(types) => Some(types),
+            None => self.others.types_of(id),
+        }
     }
 
     /// The frame came whole. A PREPARED says the types of its statement's result: it is the RESULT that names a statement. Memory is asked for
@@ -163,7 +229,7 @@ impl<A: Allocator + Clone> Transcript<A> for Responses<A> {
         ensures after { OnOk result (self.new ≡ page_manner.after self.old (Begins at header.now)) }
         ensures asks { IfErr result (λ f. is_memory f ≡ true → AsksFor self.old (Begins at header.now)) }
     {
-        let types = self.known.types_for(header.stream)?;
+        let types = self.types_for(header.stream)?;
         self.begun = FrameSpot {
             spot: self.spot(at),
             header: *header,

@@ -7,15 +7,17 @@ ghost use Rattle.cqlp_capture_prepared.specs.Keeping.{new_keeping};
 ghost use Rattle.cqlp_capture_frames.specs.Directions.{begun};
 ghost use Rattle.cqlp_capture_frames.specs.Faults.{Takes};
 ghost use Rattle.cqlp_capture_frames.specs.Reportings.{is_memory};
+ghost use Rattle.cqlp_capture_rows.specs.OtherConnections.{no_connections};
 ghost use Rattle.cqlp_capture_rows.specs.Responses.{new_responses, rules};
 ghost use Rattle.cqlp_capture_rows.specs.Listening.{answer_of};
 
 use crate::limits::{EXECUTES, LIMITS, STATEMENTS};
+use crate::other_connections::OtherConnections;
 use crate::responses::Responses;
 use cqlp_capture_frames::{Direction, ReportFault};
 use cqlp_capture_prepared::Requests;
 use cqlp_capture_streams::{ConnectionEvent, Listener, StreamsFault};
-use cqlp_note::Target;
+use cqlp_note::{NoMemory, Target};
 use cqlp_tcp_connections::{Delivery, Way};
 use cqlp_text::{Buffered, TextWriter};
 use std::alloc::{AllocError, Allocator, Global};
@@ -25,11 +27,12 @@ use std::marker::Model;
 const ROOM: usize = 65_536;
 
 /// Reads the frames of one connection of a capture, and writes the text of the pages among them, each part of it when its last byte is there.
-/// A page without metadata has the types that PREPARE said of the statement whose EXECUTE it answers.
+/// A page without metadata has the types that PREPARE said of the statement whose EXECUTE it answers: on its connection, or else on another one.
 ///
 /// Memory is taken in `new`; after it for the decoder of a frame, some 1.1 MiB, which is given back behind the frame; and for the types of a statement
 /// that is prepared, and of a page that answers an EXECUTE: one request each, of `LIMITS.entries` nodes. At most [`STATEMENTS`] statements are known,
-/// and the types of one page.
+/// and the types of one page. Of other connections memory is taken for each as it begins, for the bytes of a PREPARED as they come, for its decoder, and
+/// for the types of its statement.
 #[derive(Drop)]
 pub struct Rows<O: Target, A: Allocator = Global> {
     /// The number of the connection.
@@ -37,6 +40,7 @@ pub struct Rows<O: Target, A: Allocator = Global> {
     requests: Requests,
     direction: Direction<A>,
     responses: Responses<A>,
+    others: OtherConnections<A>,
     writer: TextWriter<Buffered<O, A>>,
 }
 
@@ -47,7 +51,7 @@ impl<O: Target, A: Allocator> Model for Rows<O, A> {
 
     ghost Value = { Listening };
 
-    ghost view = { λ r. listening r.asked r.requests r.direction r.responses (output r.writer.given r.writer.failures) };
+    ghost view = { λ r. listening r.asked r.requests r.direction r.responses r.others (output r.writer.given r.writer.failures) };
 
     ghost invariant = { λ r. r.writer.waiting ≡ [] };
 }
@@ -62,6 +66,7 @@ impl<O: Target, A: Allocator> Rows<O, A> {
             requests: _,
             direction: _,
             responses: _,
+            others: _,
             writer,
         } = self;
         writer.into_inner().into_inner()
@@ -69,8 +74,9 @@ impl<O: Target, A: Allocator> Rows<O, A> {
 }
 
 impl<O: Target, A: Allocator + Clone> Rows<O, A> {
-    ghost use Rattle.cqlp_capture_streams.specs.ConnectionEvents.{Of};
-    ghost use Rattle.cqlp_capture_rows.specs.Listening.{Changes, Hears, if_asked, leaves, new_listening};
+    ghost use Rattle.cqlp_capture_streams.specs.ConnectionEvents.{New, Of};
+    ghost use Rattle.cqlp_capture_rows.specs.OtherConnections as other;
+    ghost use Rattle.cqlp_capture_rows.specs.Listening.{Changes, Hears, if_asked, leaves, new_listening, overheard, with_connections};
 
     /// Nothing came of the connection with this number, and its pages go to this output. Memory for all but types and frames is taken here; where it
     /// is not granted, the output is given back.
@@ -79,11 +85,12 @@ impl<O: Target, A: Allocator + Clone> Rows<O, A> {
         ensures err { IfErr result (λ o. written O.Target o ≡ written O.Target out) }
     {
         match take_memory(alloc, asked) {
-            Ok((direction, responses, buffer)) => Ok(Rows {
+            Ok((direction, responses, others, buffer)) => Ok(Rows {
                 asked,
                 requests: Requests::new(false),
                 direction,
                 responses,
+                others,
                 writer: TextWriter::new(Buffered::new(out, buffer)),
             }),
             Err(AllocError) => Err(out),
@@ -95,7 +102,7 @@ impl<O: Target, A: Allocator + Clone> Rows<O, A> {
         ensures { IsSome self.old.output.given → Hears self.old (Of delivered.now bytes.now) result self.new }
     {
         if delivered.number != self.asked {
-            return Ok(());
+            return self.hear_other(delivered, bytes);
         }
         match delivered.way {
             Way::Requests => {
@@ -117,12 +124,45 @@ impl<O: Target, A: Allocator + Clone> Rows<O, A> {
         }
     }
 
+    /// Takes what a direction of another connection delivers: of the responses what is known of statements.
+    fn hear_other(&mut self, delivered: &Delivery, bytes: &[u8]) -> Result<(), StreamsFault>
+        ensures { Changes self.old (overheard delivered.now bytes.now self.old) result self.new }
+    {
+        match delivered.way {
+            Way::Requests => Ok(()),
+            Way::Responses => {
+                let heard = self
+                    .responses
+                    .hear_others(delivered.number, delivered.step, bytes, &mut self.others);
+                match heard {
+                    Ok(()) => Ok(()),
+                    Err(NoMemory) => Err(StreamsFault::NoMemory),
+                }
+            }
+        }
+    }
+
+    /// Takes the begin of a connection.
+    fn hear_new(&mut self, number: u64) -> Result<(), StreamsFault>
+        ensures { Hears self.old (New number) result self.new }
+    {
+        if number == self.asked {
+            return Ok(());
+        }
+        match self.others.begin(number) {
+            Ok(()) => Ok(()),
+            Err(AllocError) => Err(StreamsFault::NoMemory),
+        }
+    }
+
     /// Takes the end of a connection.
     fn hear_left(&mut self, number: u64) -> Result<(), StreamsFault>
         ensures { IsSome self.old.output.given
-            → Changes self.old (if_asked number (leaves self.old.requests self.old.direction self.old.responses) self.old) result self.new }
+            → Changes self.old (if_asked number (leaves self.old) (with_connections (other.leaves number self.old.others) self.old) self.old)
+            result self.new }
     {
         if number != self.asked {
+            self.others.leave(number);
             return Ok(());
         }
         let put = self.direction.close(&mut self.responses, &mut self.writer);
@@ -161,19 +201,21 @@ fn answer_of(put: Result<(), ReportFault>) -> Result<(), StreamsFault>
     }
 }
 
-/// Responses of which nothing came, and a buffer.
+/// A direction and responses of which nothing came, no other connections, and a buffer.
 fn take_memory<A: Allocator + Clone>(
     alloc: A,
     asked: u64,
-) -> Result<(Direction<A>, Responses<A>, Vec<u8, A>), AllocError>
+) -> Result<(Direction<A>, Responses<A>, OtherConnections<A>, Vec<u8, A>), AllocError>
     ensures direction { IfOk result (λ p. p.0 ≡ begun rules true false) }
     ensures responses { IfOk result (λ p. p.1 ≡ new_responses asked (new_keeping STATEMENTS EXECUTES)) }
-    ensures buffer { IfOk result (λ p. 128 ≤ vec_len p.2) }
+    ensures others { IfOk result (λ p. p.2 ≡ no_connections) }
+    ensures buffer { IfOk result (λ p. 128 ≤ vec_len p.3) }
 {
     let responses = Responses::new(alloc.clone()?, asked)?;
     let direction = Direction::new(alloc.clone()?, LIMITS, true);
+    let others = OtherConnections::new(alloc.clone()?)?;
     let buffer = vec![in alloc; 0; ROOM]?;
-    Ok((direction, responses, buffer))
+    Ok((direction, responses, others, buffer))
 }
 
 impl<O: Target, A: Allocator + Clone> Listener for Rows<O, A> {
@@ -192,7 +234,8 @@ impl<O: Target, A: Allocator + Clone> Listener for Rows<O, A> {
     #[tactic(auto, using(crate::proofs::Heard::reports_what_it_heard))]
     fn hear(&mut self, event: &ConnectionEvent<'_>) -> Result<(), StreamsFault> {
         match event {
-            ConnectionEvent::Packet { .. } | ConnectionEvent::New { .. } => Ok(()),
+            ConnectionEvent::Packet { .. } => Ok(()),
+            ConnectionEvent::New { number } => self.hear_new(*number),
             ConnectionEvent::Of { delivered, bytes } => self.hear_delivery(delivered, bytes),
             ConnectionEvent::Left(totals) => self.hear_left(totals.number),
         }

@@ -50,6 +50,11 @@ impl<A: Allocator> PreparedTypes<A> {
         Some(&types.table)
     }
 
+    /// Says that the statement with this id is used, as by an EXECUTE that names it.
+    pub fn note_use(&mut self, id: &StatementId) {
+        self.known.touch(id);
+    }
+
     /// Begins with another connection, of which nothing is known, with the memory for both lists that it has.
     pub fn clear(&mut self) {
         self.known.clear();

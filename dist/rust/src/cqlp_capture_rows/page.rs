@@ -58,7 +58,7 @@ impl Page {
 }
 
 /// Keeps the id of a statement, if an event says one.
-fn note_id(id: &mut Option<StatementId>, event: &Event<'_>) {
+pub(crate) fn note_id(id: &mut Option<StatementId>, event: &Event<'_>) {
     if let Event::Bytes {
         field: Field::StatementId,
         bytes: Some(bytes),

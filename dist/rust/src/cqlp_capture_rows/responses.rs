@@ -1,14 +1,16 @@
 // Written by dist/erase from crates/cqlp_capture_rows/src/responses.rt.
 //! The text of the responses of a connection.
 
-use crate::kit_host::prelude::{AllocGlobal, Clone};
+use crate::kit_host::prelude::{AllocGlobal, Clone, ToCopy};
 use crate::cqlp_capture_rows::limits::{EXECUTES, STATEMENTS};
+use crate::cqlp_capture_rows::other_connections::OtherConnections;
+use crate::cqlp_capture_rows::other_types::OtherTypes;
 use crate::cqlp_capture_rows::page::Page;
 use crate::cqlp_capture_rows::spot::{FrameSpot, Spot};
 use crate::cqlp_capture_frames::{
     LinePlace, ReportFault, Transcript, put_compressed, put_gap, put_refused, put_unread,
 };
-use crate::cqlp_capture_prepared::{NewPreparedError, PreparedTypes, Requests};
+use crate::cqlp_capture_prepared::{NewPreparedError, PreparedTypes, Requests, StatementId};
 use crate::cqlp_grammar::{Event, SinkFault};
 use crate::cqlp_note::{Header, NoMemory, Opcode, Reason};
 use crate::cqlp_tcp_reassembly::{GapCause, StreamStep};
@@ -30,6 +32,7 @@ pub(crate) struct Responses<A: Allocator = Global> {
     /// The number of the connection.
     number: u64,
     known: PreparedTypes<A>,
+    others: OtherTypes<A>,
     /// Where the frame that began last begins, and its header.
     begun: FrameSpot,
     /// What it said of a page.
@@ -39,10 +42,12 @@ pub(crate) struct Responses<A: Allocator = Global> {
 impl<A: Allocator + Clone> Responses<A> {
     /// Nothing came of the connection with this number. All memory but that of types is taken here.
     pub(crate) fn new(alloc: A, number: u64) -> Result<Self, AllocError> {
+        let others = OtherTypes::new(alloc.to_copy()?)?;
         match PreparedTypes::new(alloc, STATEMENTS, EXECUTES) {
             Ok(known) => Ok(Responses {
                 number,
                 known,
+                others,
                 begun: FrameSpot {
                     spot: Spot { number, at: 0 },
                     header: NO_HEADER,
@@ -83,6 +88,54 @@ impl<A: Allocator> Responses<A> {
         cut
     }
 
+    /// Takes what the responses of another connection deliver, with its bytes: what is known of statements changes by that.
+    pub(crate) fn hear_others(
+        &mut self,
+        number: u64,
+        step: StreamStep,
+        bytes: &[u8],
+        connections: &mut OtherConnections<A>,
+    ) -> Result<(), NoMemory>
+    where
+        A: Clone,
+    {
+        connections.hear(number, step, bytes, &mut self.others)
+    }
+
+    /// Says that a response came under this stream id, and copies the types of the statement that the EXECUTE names which waits under it. Memory is
+    /// asked for only where there are types.
+    fn types_for(&mut self, stream: i16) -> Result<Option<TypeTable<A>>, NoMemory>
+    where
+        A: Clone,
+    {
+        match self.known.answered(stream) {
+            Some(id) => {
+                let types = self.copy_of(&id);
+                self.others.note_use(&id);
+                types
+            }
+            None => Ok(None),
+        }
+    }
+
+    fn copy_of(&self, id: &StatementId) -> Result<Option<TypeTable<A>>, NoMemory>
+    where
+        A: Clone,
+    {
+        match self.types_of(id) {
+            Some(types) => Ok(Some(types.clone_table()?)),
+            None => Ok(None),
+        }
+    }
+
+    /// The types of a statement, by its own connection first.
+    fn types_of(&self, id: &StatementId) -> Option<&TypeTable<A>> {
+        match self.known.types_of(id) {
+            Some(types) => Some(types),
+            None => self.others.types_of(id),
+        }
+    }
+
     /// The frame came whole. A PREPARED says the types of its statement's result: it is the RESULT that names a statement. Memory is asked for
     /// only then.
     fn learn(&mut self, types: &TypeTable<A>) -> Result<(), NoMemory>
@@ -112,7 +165,7 @@ impl<A: Allocator + Clone> Transcript<A> for Responses<A> {
         header: &Header,
         _writer: &mut TextWriter<P>,
     ) -> Result<Option<TypeTable<A>>, ReportFault> {
-        let types = self.known.types_for(header.stream)?;
+        let types = self.types_for(header.stream)?;
         self.begun = FrameSpot {
             spot: self.spot(at),
             header: *header,

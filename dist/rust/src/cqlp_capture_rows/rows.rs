@@ -3,11 +3,12 @@
 
 use crate::kit_host::prelude::{AllocGlobal, Clone, ToCopy, Vec, vec};
 use crate::cqlp_capture_rows::limits::{LIMITS};
+use crate::cqlp_capture_rows::other_connections::OtherConnections;
 use crate::cqlp_capture_rows::responses::Responses;
 use crate::cqlp_capture_frames::{Direction, ReportFault};
 use crate::cqlp_capture_prepared::Requests;
 use crate::cqlp_capture_streams::{ConnectionEvent, Listener, StreamsFault};
-use crate::cqlp_note::Target;
+use crate::cqlp_note::{NoMemory, Target};
 use crate::cqlp_tcp_connections::{Delivery, Way};
 use crate::cqlp_text::{Buffered, TextWriter};
 use crate::kit_std::alloc::{AllocError, Allocator, Global};
@@ -16,17 +17,19 @@ use crate::kit_std::alloc::{AllocError, Allocator, Global};
 const ROOM: usize = 65_536;
 
 /// Reads the frames of one connection of a capture, and writes the text of the pages among them, each part of it when its last byte is there.
-/// A page without metadata has the types that PREPARE said of the statement whose EXECUTE it answers.
+/// A page without metadata has the types that PREPARE said of the statement whose EXECUTE it answers: on its connection, or else on another one.
 ///
 /// Memory is taken in `new`; after it for the decoder of a frame, some 1.1 MiB, which is given back behind the frame; and for the types of a statement
 /// that is prepared, and of a page that answers an EXECUTE: one request each, of `LIMITS.entries` nodes. At most [`STATEMENTS`] statements are known,
-/// and the types of one page.
+/// and the types of one page. Of other connections memory is taken for each as it begins, for the bytes of a PREPARED as they come, for its decoder, and
+/// for the types of its statement.
 pub struct Rows<O: Target, A: Allocator = Global> {
     /// The number of the connection.
     asked: u64,
     requests: Requests,
     direction: Direction<A>,
     responses: Responses<A>,
+    others: OtherConnections<A>,
     writer: TextWriter<Buffered<O, A>>,
 }
 
@@ -38,6 +41,7 @@ impl<O: Target, A: Allocator> Rows<O, A> {
             requests: _,
             direction: _,
             responses: _,
+            others: _,
             writer,
         } = self;
         writer.into_inner().into_inner()
@@ -49,11 +53,12 @@ impl<O: Target, A: Allocator + Clone> Rows<O, A> {
     /// is not granted, the output is given back.
     pub fn new(alloc: A, asked: u64, out: O) -> Result<Self, O> {
         match take_memory(alloc, asked) {
-            Ok((direction, responses, buffer)) => Ok(Rows {
+            Ok((direction, responses, others, buffer)) => Ok(Rows {
                 asked,
                 requests: Requests::new(false),
                 direction,
                 responses,
+                others,
                 writer: TextWriter::new(Buffered::new(out, buffer)),
             }),
             Err(AllocError) => Err(out),
@@ -63,7 +68,7 @@ impl<O: Target, A: Allocator + Clone> Rows<O, A> {
     /// Takes what a direction delivers: of the requests what is known of statements, of the responses their text.
     fn hear_delivery(&mut self, delivered: &Delivery, bytes: &[u8]) -> Result<(), StreamsFault> {
         if delivered.number != self.asked {
-            return Ok(());
+            return self.hear_other(delivered, bytes);
         }
         match delivered.way {
             Way::Requests => {
@@ -85,9 +90,37 @@ impl<O: Target, A: Allocator + Clone> Rows<O, A> {
         }
     }
 
+    /// Takes what a direction of another connection delivers: of the responses what is known of statements.
+    fn hear_other(&mut self, delivered: &Delivery, bytes: &[u8]) -> Result<(), StreamsFault> {
+        match delivered.way {
+            Way::Requests => Ok(()),
+            Way::Responses => {
+                let heard = self
+                    .responses
+                    .hear_others(delivered.number, delivered.step, bytes, &mut self.others);
+                match heard {
+                    Ok(()) => Ok(()),
+                    Err(NoMemory) => Err(StreamsFault::NoMemory),
+                }
+            }
+        }
+    }
+
+    /// Takes the begin of a connection.
+    fn hear_new(&mut self, number: u64) -> Result<(), StreamsFault> {
+        if number == self.asked {
+            return Ok(());
+        }
+        match self.others.begin(number) {
+            Ok(()) => Ok(()),
+            Err(AllocError) => Err(StreamsFault::NoMemory),
+        }
+    }
+
     /// Takes the end of a connection.
     fn hear_left(&mut self, number: u64) -> Result<(), StreamsFault> {
         if number != self.asked {
+            self.others.leave(number);
             return Ok(());
         }
         let put = self.direction.close(&mut self.responses, &mut self.writer);
@@ -119,21 +152,23 @@ fn answer_of(put: Result<(), ReportFault>) -> Result<(), StreamsFault> {
     }
 }
 
-/// Responses of which nothing came, and a buffer.
+/// A direction and responses of which nothing came, no other connections, and a buffer.
 fn take_memory<A: Allocator + Clone>(
     alloc: A,
     asked: u64,
-) -> Result<(Direction<A>, Responses<A>, Vec<u8, A>), AllocError> {
+) -> Result<(Direction<A>, Responses<A>, OtherConnections<A>, Vec<u8, A>), AllocError> {
     let responses = Responses::new(alloc.to_copy()?, asked)?;
     let direction = Direction::new(alloc.to_copy()?, LIMITS, true);
+    let others = OtherConnections::new(alloc.to_copy()?)?;
     let buffer = vec![in alloc; 0; ROOM]?;
-    Ok((direction, responses, buffer))
+    Ok((direction, responses, others, buffer))
 }
 
 impl<O: Target, A: Allocator + Clone> Listener for Rows<O, A> {
     fn hear(&mut self, event: &ConnectionEvent<'_>) -> Result<(), StreamsFault> {
         match event {
-            ConnectionEvent::Packet { .. } | ConnectionEvent::New { .. } => Ok(()),
+            ConnectionEvent::Packet { .. } => Ok(()),
+            ConnectionEvent::New { number } => self.hear_new(*number),
             ConnectionEvent::Of { delivered, bytes } => self.hear_delivery(delivered, bytes),
             ConnectionEvent::Left(totals) => self.hear_left(totals.number),
         }

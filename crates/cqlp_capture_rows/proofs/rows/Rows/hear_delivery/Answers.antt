@@ -25,9 +25,9 @@ returns-in-Responses g c = λ known.
     let x = step_reported page_manner true t.step t.at b i.responses i.direction in
     let put = c.hear-put.new in
     let writer = c.pass_on.new.writer in
-    let old = listening i.asked i.requests i.direction i.responses (output i.writer.given i.writer.failures) in
-    let new = listening i.asked i.requests put.self put.transcript (output writer.given writer.failures) in
+    let old = listening i.asked i.requests i.direction i.responses i.others (output i.writer.given i.writer.failures) in
+    let new = listening i.asked i.requests put.self put.transcript i.others (output writer.given writer.failures) in
     let given = subst (λ (s : Listening). IsSome s.output.given) (sym c.self.view_is) known in
-    let so = changes_so i.asked i.requests i.direction put.self i.responses put.transcript i.writer put.writer writer x c.hear-put.result c.pass_on.result c.self.invariant given c.hear-put.ensures.reported c.pass_on.ensures.text c.pass_on.ensures.passed c.pass_on.ensures.ok in
-    let changes = subst (λ (r : Result (Unit {0}) StreamsFault). Changes old (hears_responses i.requests x) r new) (sym c.answer_of.ensures) so in
+    let so = changes_so i.asked i.requests i.direction put.self i.responses put.transcript i.others i.writer put.writer writer x c.hear-put.result c.pass_on.result c.self.invariant given c.hear-put.ensures.reported c.pass_on.ensures.text c.pass_on.ensures.passed c.pass_on.ensures.ok in
+    let changes = subst (λ (r : Result (Unit {0}) StreamsFault). Changes old (hears_responses x old) r new) (sym c.answer_of.ensures) so in
     subst (λ (s : Listening). Hears s (Of t b) c.answer_of.result new) c.self.view_is (hears_of old new t b ByNode c.answer_of.result c.if-delivered-self.false c.in-Responses.is changes)
