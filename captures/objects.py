@@ -1,10 +1,11 @@
 #!/usr/bin/env python3
-"""captures/objects.py FILE COMMAND..: prints what is wrong with the objects (--json) and the summary (--summary) that `cqlp capture` writes of a
-capture, beside its lines, which lines.py reads in another way. Each object has to say what its line says, also with --utc and --ends and of those that --kind
-leaves, all the same first moment, and those of a
-connection the same ends; and each statement of the summary what its lines add up to, with --by each table, client, node, opcode and error, also as
-JSON, with --every each interval, also as JSON, and with --histogram the times of all."""
+"""captures/objects.py FILE COMMAND..: prints what is wrong with the objects (--json), the records (--csv) and the summary (--summary) that `cqlp capture`
+writes of a capture, beside its lines, which lines.py reads in another way. Each object has to say what its line says, also with --utc and --ends and of those
+that --kind leaves, all the same first moment, and those of a connection the same ends; each record what its object says; and each statement of the summary
+what its lines add up to, with --by each table, client, node, opcode and error, also as JSON, with --every each interval, also as JSON, and with --histogram
+the times of all."""
 import collections
+import csv
 import datetime
 import json
 import re
@@ -309,6 +310,34 @@ def row_of_interval(of):
     return [begin, *(str(of[key]) for key in EVERY_KEYS[1:7]), *times]
 
 
+# The names of the fields of --csv, which are keys of objects.
+COLUMNS = """told time utc client node connection stream request request_bytes request_is_whole request_is_compressed statements statement id statement_is_whole
+    consistency page_size has_paging_state response response_bytes response_is_whole response_is_compressed result error message message_is_whole rows columns
+    has_more_pages warnings tracing_id took connection_end protocol version""".split()
+
+# What a terminal may obey, and the backslash.
+HIDDEN = re.compile("[\\0-\x1f\x7f-\x9f\u061c\u200e\u200f\u2028-\u202e\u2066-\u2069]|\\\\")
+
+
+def field(value):
+    """A value of an object, as a field of --csv has it."""
+    if value is None:
+        return ""
+    if isinstance(value, str):
+        return HIDDEN.sub(lambda found: "\\\\" if found[0] == "\\" else "".join(f"\\x{byte:02x}" for byte in found[0].encode()), value)
+    return str(value).lower() if isinstance(value, bool) else f"{value:f}" if isinstance(value, Decimal) else str(value)
+
+
+def record_of(of):
+    return [field(of.get(key)) for key in COLUMNS]
+
+
+def read_records(lines):
+    """The records of lines, none of which may have what a terminal obeys."""
+    assert not any(found[0] != "\\" for line in lines for found in HIDDEN.finditer(line)), lines
+    return list(csv.reader(lines, strict=True))
+
+
 def histogram_of(objects):
     """The lines of a histogram: how many requests took a time below 32 nanoseconds, or from a power of two on and below the next."""
     numbers, times, _ = counted = nothing()
@@ -357,6 +386,9 @@ def main(file, *command):
         due = [styled(text, of, style) for text, of in zip(lines, objects)]
         if written(command, file, *style) != (due, said):
             print(f"other lines with {style} than {due}")
+    records, said_of_records = written(command, file, "--csv")
+    if said_of_records != said or read_records(records) != [COLUMNS, *map(record_of, objects)]:
+        print(f"other records than the objects: {records}")
     counted = {}
     for text in summary[1:]:
         words = text.split(None, 11)

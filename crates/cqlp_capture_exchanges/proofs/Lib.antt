@@ -3,6 +3,7 @@ pub mod Causes
 pub mod Heard
 pub mod Known
 pub mod Ends
+mod Fields
 mod Labels
 mod Members
 pub mod Missing

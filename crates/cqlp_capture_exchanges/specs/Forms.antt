@@ -10,6 +10,7 @@ use Rattle.cqlp_capture_exchanges.specs.declared.summary_by.Attribute.{Attribute
 use Rattle.cqlp_capture_exchanges.specs.declared.summary_by.Attribute.TheVariants as attribute
 use Rattle.cqlp_capture_exchanges.specs.declared.summary_by.SummaryBy.{SummaryBy}
 use Rattle.cqlp_capture_exchanges.specs.declared.summary_by.SummaryBy.TheVariants as by
+use Rattle.cqlp_capture_exchanges.specs.CsvRecords.{csv_text, names_if_first, with_record}
 use Rattle.cqlp_capture_exchanges.specs.Prepared.{Known}
 use Rattle.cqlp_capture_exchanges.specs.Reports.{Report}
 use Rattle.cqlp_capture_exchanges.specs.Histograms.{with_report_by_time}
@@ -23,6 +24,7 @@ use Rattle.cqlp_capture_exchanges.specs.SummaryObjects.{summary_objects}
 abbrev pub text_of : ExchangeForm → (known : Known) → (first : Option ℕ) → Summary → Connection → Report → List ℕ
 text_of (form.Lines style) known first s n r = line known style first n r
 text_of (form.Json shown) known first s n r = json_line known shown first n r
+text_of form.Csv known first s n r = csv_text known first s n r
 text_of (form.Summary b) known first s n r = []
 text_of (form.SummaryJson b) known first s n r = []
 text_of (form.Intervals seconds shown) known first s n r = text_before shown seconds r s
@@ -32,6 +34,7 @@ text_of form.Histogram known first s n r = []
 abbrev pub noted_in : ExchangeForm → (known : Known) → Connection → Report → Summary → Summary
 noted_in (form.Lines style) known n r s = s
 noted_in (form.Json shown) known n r s = s
+noted_in form.Csv known n r s = with_record s
 noted_in (form.Summary b) known n r s = with_report b known n r s
 noted_in (form.SummaryJson b) known n r s = with_report b known n r s
 noted_in (form.Intervals seconds shown) known n r s = with_report_in_interval seconds r s
@@ -40,6 +43,7 @@ noted_in form.Histogram known n r s = with_report_by_time r s
 abbrev pub statements_in : ExchangeForm → ℕ
 statements_in (form.Lines style) = 0
 statements_in (form.Json shown) = 0
+statements_in form.Csv = 0
 statements_in (form.Summary b) = 256
 statements_in (form.SummaryJson b) = 256
 statements_in (form.Intervals seconds shown) = 0
@@ -59,6 +63,7 @@ heading_of (by.Attribute a) = attribute_heading a
 abbrev pub ending_of : ExchangeForm → Summary → List ℕ
 ending_of (form.Lines style) s = []
 ending_of (form.Json shown) s = []
+ending_of form.Csv s = names_if_first s
 ending_of (form.Summary b) s = summary_text (heading_of b) s
 ending_of (form.SummaryJson b) s = summary_objects (heading_of b) s
 ending_of (form.Intervals seconds shown) s = interval_as shown seconds s.others

@@ -22,6 +22,8 @@ pub mod Histograms
 pub mod SummaryObjects
 pub mod IntervalObjects
 pub mod Intervals
+pub mod CsvFields
+pub mod CsvRecords
 pub mod Forms
 pub mod Accounts
 pub mod Talks

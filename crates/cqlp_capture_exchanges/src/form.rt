@@ -48,6 +48,8 @@ pub enum ExchangeForm {
     Lines(LineStyle),
     /// A JSON object in a line for each, as soon as the last byte of the response is there.
     Json(ValuesShown),
+    /// Likewise a record of CSV, below one with the names of its fields.
+    Csv,
     /// A line for each name at the end of the capture, by which requests are counted: how many there were, and how long they took.
     Summary(SummaryBy),
     /// Likewise a JSON object in a line for each name.
@@ -67,6 +69,7 @@ impl ExchangeForm {
         match self {
             ExchangeForm::Lines(_) => 0,
             ExchangeForm::Json(_) => 0,
+            ExchangeForm::Csv => 0,
             ExchangeForm::Summary(_) => 256,
             ExchangeForm::SummaryJson(_) => 256,
             ExchangeForm::Intervals(_, _) => 0,

@@ -63,7 +63,7 @@ pub(crate) fn note_in_interval<A: Allocator, B: Allocator>(
     }
 }
 
-fn note_outcome<A: Allocator>(summary: &mut Summary<A>, seconds: u32, outcome: &Outcome)
+pub(crate) fn note_outcome<A: Allocator>(summary: &mut Summary<A>, seconds: u32, outcome: &Outcome)
     ensures { summary.new ≡ noted_in_interval seconds (over_request outcome.now) summary.old }
 {
     let occurrence = Occurrence {

@@ -1,4 +1,4 @@
-//! The exchanges on the connections of a capture: each request with its reply, as lines, as JSON, or in a summary.
+//! The exchanges on the connections of a capture: each request with its reply, as lines, as JSON, as CSV, or in a summary.
 #![tactic(auto)]
 
 mod attribute;
@@ -6,6 +6,8 @@ mod batch_name;
 mod bound;
 mod capturing;
 mod connection;
+mod csv_field;
+mod csv_record;
 mod details_line;
 mod details_object;
 mod end;

@@ -1,9 +1,12 @@
 //! Members of JSON objects, and their values.
 
 ghost use Rattle.std.specs.Prelude.{◌≡◌, option_map};
+ghost use Rattle.std.specs.Fmt.{signed_decimal};
 ghost use Rattle.std.specs.List.{flat_map};
 ghost use Rattle.cqlp_text.specs.CellText.{boolean_text};
 ghost use Rattle.cqlp_text.specs.Written.{Writes};
+ghost use Rattle.cqlp_capture_exchanges.specs.CsvFields.{field_text, if_known};
+ghost use Rattle.cqlp_capture_exchanges.specs.CsvRecords.{level as level_text};
 ghost use Rattle.cqlp_capture_exchanges.specs.Members.{consistency_or_null, end_value, flag_or_null, hex_or_null, member_text, name_or_code};
 ghost use Rattle.cqlp_capture_exchanges.specs.Members.{number as number_text, number_or_null, quote, seconds, seconds_or_null, string_or_null};
 ghost use Rattle.cqlp_capture_exchanges.specs.Members.{signed_or_null, utc as utc_text, utc_or_null, uuid as uuid_text, uuid_or_null, value_text};
@@ -50,7 +53,8 @@ pub(crate) struct Member<'a>(pub &'a str, pub Value<'a>);
 
 /// A time, where it is known.
 pub(crate) fn seconds_or_null(time: Option<Span>) -> Value<'static>
-    ensures { value_text result ≡ seconds_or_null time }
+    ensures value { value_text result ≡ seconds_or_null time }
+    ensures field { field_text result ≡ if_known seconds time }
 {
     match time {
         Some(span) => Value::Seconds(span),
@@ -60,7 +64,8 @@ pub(crate) fn seconds_or_null(time: Option<Span>) -> Value<'static>
 
 /// A date and a time of day, where they are known.
 pub(crate) fn utc_or_null(time: Option<u64>) -> Value<'static>
-    ensures { value_text result ≡ utc_or_null time }
+    ensures value { value_text result ≡ utc_or_null time }
+    ensures field { field_text result ≡ if_known utc_text time }
 {
     match time {
         Some(time) => Value::Utc(time),
@@ -70,7 +75,8 @@ pub(crate) fn utc_or_null(time: Option<u64>) -> Value<'static>
 
 /// A number, where it is known.
 pub(crate) fn signed_or_null(number: Option<i32>) -> Value<'static>
-    ensures { value_text result ≡ signed_or_null number }
+    ensures value { value_text result ≡ signed_or_null number }
+    ensures field { field_text result ≡ if_known signed_decimal number }
 {
     match number {
         Some(number) => Value::Signed(number),
@@ -80,7 +86,8 @@ pub(crate) fn signed_or_null(number: Option<i32>) -> Value<'static>
 
 /// A number, where it is known.
 pub(crate) fn number_or_null(number: Option<u16>) -> Value<'static>
-    ensures { value_text result ≡ number_or_null number }
+    ensures value { value_text result ≡ number_or_null number }
+    ensures field { field_text result ≡ if_known number_text number }
 {
     match number {
         Some(number) => Value::Number(u64::from(number)),
@@ -90,7 +97,8 @@ pub(crate) fn number_or_null(number: Option<u16>) -> Value<'static>
 
 /// An id, where it is known.
 pub(crate) fn uuid_or_null(id: Option<[u8; 16]>) -> Value<'static>
-    ensures { value_text result ≡ uuid_or_null id }
+    ensures value { value_text result ≡ uuid_or_null id }
+    ensures field { field_text result ≡ if_known uuid_text id }
 {
     match id {
         Some(id) => Value::Uuid(id),
@@ -100,7 +108,8 @@ pub(crate) fn uuid_or_null(id: Option<[u8; 16]>) -> Value<'static>
 
 /// Whether something is so, where that is known.
 pub(crate) fn flag_or_null(flag: Option<bool>) -> Value<'static>
-    ensures { value_text result ≡ flag_or_null flag }
+    ensures value { value_text result ≡ flag_or_null flag }
+    ensures field { field_text result ≡ if_known boolean_text flag }
 {
     match flag {
         Some(flag) => Value::Flag(flag),
@@ -130,7 +139,8 @@ pub(crate) fn hex_or_null<'a>(bytes: Option<&'a [u8]>) -> Value<'a>
 
 /// A consistency level, where it is known.
 pub(crate) fn consistency_or_null(level: Option<u16>) -> Value<'static>
-    ensures { value_text result ≡ consistency_or_null level }
+    ensures value { value_text result ≡ consistency_or_null level }
+    ensures field { field_text result ≡ if_known level_text level }
 {
     match level {
         Some(level) => name_or_code(consistency_name(level), u32::from(level)),
@@ -140,7 +150,8 @@ pub(crate) fn consistency_or_null(level: Option<u16>) -> Value<'static>
 
 /// A name, or where there is none the number.
 pub(crate) fn name_or_code(name: Option<&'static str>, code: u32) -> Value<'static>
-    ensures { value_text result ≡ name_or_code (option_map (λ s. s.now) name.entry) code }
+    ensures value { value_text result ≡ name_or_code (option_map (λ s. s.now) name.entry) code }
+    ensures field { field_text result ≡ name_or_code (option_map (λ s. s.now) name.entry) code }
 {
     match name {
         Some(name) => Value::Name(name),
@@ -163,7 +174,10 @@ pub(crate) fn put_members<P: Pen>(
 }
 
 /// Takes a value.
-fn put_value<P: Pen>(writer: &mut TextWriter<P>, value: Value<'_>) -> Result<(), SinkFault>
+pub(crate) fn put_value<P: Pen>(
+    writer: &mut TextWriter<P>,
+    value: Value<'_>,
+) -> Result<(), SinkFault>
     ensures { Writes writer.old (value_text value.entry) result writer.new }
 {
     match value {

@@ -12,6 +12,7 @@ ghost use Rattle.cqlp_capture_exchanges.specs.Statements.{said_of};
 use crate::attribute::{append_attribute, append_id};
 use crate::batch_name::{MOST, batch_name};
 use crate::connection::Connection;
+use crate::csv_record::note_record;
 use crate::filter::is_failure;
 use crate::form::ExchangeForm;
 use crate::histogram::note_by_time;
@@ -45,6 +46,7 @@ pub(crate) fn note<A: Allocator, B: Allocator>(
     match form {
         ExchangeForm::Lines(_) => {}
         ExchangeForm::Json(_) => {}
+        ExchangeForm::Csv => note_record(summary),
         ExchangeForm::Summary(by) => note_report(summary, by, known, connection, report),
         ExchangeForm::SummaryJson(by) => note_report(summary, by, known, connection, report),
         ExchangeForm::Intervals(seconds, _) => note_in_interval(summary, seconds, report),

@@ -10,6 +10,8 @@ ghost use Rattle.cqlp_capture_exchanges.specs.Objects.{message_as, message_membe
 ghost use Rattle.cqlp_capture_exchanges.specs.Objects.{protocol_name, query_members, reply_members, reply_values, request_frame_members};
 ghost use Rattle.cqlp_capture_exchanges.specs.Objects.{request_members, response_frame_members, response_members, result_members};
 ghost use Rattle.cqlp_capture_exchanges.specs.Objects.{statement_as, statement_members, unread_members, unread_object, version_or_null};
+ghost use Rattle.cqlp_capture_exchanges.specs.CsvFields.{field_text, none_whole_field};
+ghost use Rattle.cqlp_capture_exchanges.specs.CsvRecords.{end_field, version_field};
 ghost use Rattle.cqlp_capture_exchanges.specs.Members.{value_text};
 ghost use Rattle.cqlp_capture_exchanges.specs.Statements.{said_of};
 
@@ -108,7 +110,7 @@ fn put_opening<P: Pen>(
     )
 }
 
-fn protocol_name(opening: Opening) -> &'static str
+pub(crate) fn protocol_name(opening: Opening) -> &'static str
     ensures { result.now ≡ protocol_name opening }
 {
     match opening {
@@ -119,8 +121,9 @@ fn protocol_name(opening: Opening) -> &'static str
     }
 }
 
-fn version_or_null(opening: Opening) -> Value<'static>
-    ensures { value_text result ≡ version_or_null opening }
+pub(crate) fn version_or_null(opening: Opening) -> Value<'static>
+    ensures value { value_text result ≡ version_or_null opening }
+    ensures field { field_text result ≡ version_field opening }
 {
     match opening {
         Opening::OtherVersion(version) => Value::Number(u64::from(version)),
@@ -267,8 +270,9 @@ fn put_last<P: Pen>(writer: &mut TextWriter<P>, last: Last) -> Result<(), SinkFa
     )
 }
 
-fn end_or_null(end: Option<ConnectionEnd>) -> Value<'static>
-    ensures { value_text result ≡ end_or_null end }
+pub(crate) fn end_or_null(end: Option<ConnectionEnd>) -> Value<'static>
+    ensures value { value_text result ≡ end_or_null end }
+    ensures field { field_text result ≡ end_field end }
 {
     match end {
         None => Value::Null,
@@ -347,8 +351,9 @@ fn put_request_frame<P: Pen>(writer: &mut TextWriter<P>, frame: &Frame) -> Resul
 }
 
 /// Whether all of a text is there that is not there: not, where it was given up.
-fn none_whole(is_given_up: bool) -> Value<'static>
-    ensures { value_text result ≡ none_whole is_given_up }
+pub(crate) fn none_whole(is_given_up: bool) -> Value<'static>
+    ensures value { value_text result ≡ none_whole is_given_up }
+    ensures field { field_text result ≡ none_whole_field is_given_up }
 {
     if is_given_up {
         Value::Flag(false)

@@ -9,6 +9,7 @@ ghost use Rattle.cqlp_text.specs.Outputs.{written};
 ghost use Rattle.cqlp_capture_exchanges.specs.Reports.{report_of};
 
 use crate::connection::Connection;
+use crate::csv_record::{put_csv, put_names};
 use crate::filter::ExchangeFilter;
 use crate::form::ExchangeForm;
 use crate::histogram::put_histogram;
@@ -246,6 +247,7 @@ fn put_report<W: Target, A: Allocator, B: Allocator>(
         ExchangeForm::Json(shown) => {
             put_json_line(writer, known, shown, first, connection, report)
         }
+        ExchangeForm::Csv => put_csv(writer, known, first, summary, connection, report),
         ExchangeForm::Summary(_) => Ok(()),
         ExchangeForm::SummaryJson(_) => Ok(()),
         ExchangeForm::Intervals(seconds, shown) => {
@@ -269,6 +271,7 @@ fn put_ending<W: Target, A: Allocator>(
     match form {
         ExchangeForm::Lines(_) => Ok(()),
         ExchangeForm::Json(_) => Ok(()),
+        ExchangeForm::Csv => put_names(writer, summary),
         ExchangeForm::Summary(by) => put_summary(writer, by.heading(), summary),
         ExchangeForm::SummaryJson(by) => put_objects(writer, by.heading(), summary),
         ExchangeForm::Intervals(seconds, shown) => put_interval(writer, shown, seconds, summary),

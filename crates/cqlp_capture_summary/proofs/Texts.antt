@@ -11,7 +11,7 @@ use Rattle.std.specs.Str.Lossy.{utf8_valid_len}
 use Rattle.cqlp_grammar.specs.declared.sink.SinkFault.{SinkFault}
 use Rattle.cqlp_text.specs.Written.{Written, BreaksOff, Receives, Writes}
 use Rattle.cqlp_text.proofs.Writing.{Progress, progress_goes_on, progress_last, progress_stops}
-use Rattle.cqlp_capture_summary.specs.Shown.{escape, is_plain, shown, shown_text}
+use Rattle.cqlp_capture_summary.specs.Shown.{escape, is_plain, shown, shown_in_field, shown_in_fields, shown_text}
 
 -- one part after the other, which is another way of writing what is due
 
@@ -42,6 +42,13 @@ shown_at text rest c is parts = ap (flat_map shown) (chars_past_char text rest c
 pub shown_none : (text : List ℕ) → length text ≡ 0 → shown_text text ≡ []
 shown_none [] none = ap (flat_map shown) chars-nil
 shown_none (b ∷ bs) none = absurd (omega arith)
+
+pub field_at : (text rest : List ℕ) (c : ℕ) → IsUtf8 text → text ≡ encode_utf8 c ++ rest → shown_in_field text ≡ shown_in_fields c ++ shown_in_field rest
+field_at text rest c is parts = ap (flat_map shown_in_fields) (chars_past_char text rest c is parts)
+
+pub field_none : (text : List ℕ) → length text ≡ 0 → shown_in_field text ≡ []
+field_none [] none = ap (flat_map shown_in_fields) chars-nil
+field_none (b ∷ bs) none = absurd (omega arith)
 
 -- ---- a text of plain bytes is written as it is
 

@@ -24,9 +24,16 @@ shown c =
     else if c == 92 then codes "\\\\"
     else encode_utf8 c
 
+-- As it is written between the quotes of a field of CSV (section 2 of RFC 4180), where a quote is doubled.
+abbrev pub shown_in_fields : (c : ℕ) → List ℕ
+shown_in_fields c = if c == 34 then codes "\"\"" else shown c
+
 -- A byte that is a character, and is not escaped.
 abbrev pub is_plain : (byte : ℕ) → Bool
 is_plain b = is_in_range 0x20 0x21 b || is_in_range 0x23 0x5B b || is_in_range 0x5D 0x7E b
 
 abbrev pub shown_text : List ℕ → List ℕ
 shown_text text = flat_map shown (chars text)
+
+abbrev pub shown_in_field : List ℕ → List ℕ
+shown_in_field text = flat_map shown_in_fields (chars text)

@@ -26,6 +26,6 @@ pub use fingerprint::Fingerprint;
 pub use intervals::{begin_of, width_of};
 pub use occurrence::Occurrence;
 pub use row::Row;
-pub use shown::put_shown_text;
+pub use shown::{put_shown_in_field, put_shown_text};
 pub use summary::Summary;
 pub use tally::{Figures, Tally, Times};

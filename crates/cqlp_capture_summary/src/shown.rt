@@ -4,7 +4,7 @@ ghost use Rattle.std.specs.Prelude.{◌≡◌};
 ghost use Rattle.std.specs.Int.{is_in_range};
 ghost use Rattle.std.specs.List.{flat_map, list_all};
 ghost use Rattle.cqlp_text.specs.Written.{Writes};
-ghost use Rattle.cqlp_capture_summary.specs.Shown.{escape, is_hidden, is_plain, shown, shown_text};
+ghost use Rattle.cqlp_capture_summary.specs.Shown.{escape, is_hidden, is_plain, shown, shown_in_field, shown_in_fields, shown_text};
 
 use cqlp_grammar::SinkFault;
 use cqlp_text::{Pen, TextWriter};
@@ -20,6 +20,26 @@ pub fn put_shown_text<P: Pen>(writer: &mut TextWriter<P>, text: &str) -> Result<
         put_shown(writer, c)?;
     }
     Ok(())
+}
+
+/// Takes a text as it is written between the quotes of a field of CSV: a quote is doubled, and all else is as `put_shown_text` takes it.
+pub fn put_shown_in_field<P: Pen>(writer: &mut TextWriter<P>, text: &str) -> Result<(), SinkFault>
+    ensures { Writes writer.old (shown_in_field text.now) result writer.new }
+{
+    for c in text.chars() {
+        put_in_field(writer, c)?;
+    }
+    Ok(())
+}
+
+fn put_in_field<P: Pen>(writer: &mut TextWriter<P>, c: char) -> Result<(), SinkFault>
+    ensures { Writes writer.old (shown_in_fields c) result writer.new }
+{
+    if c == '"' {
+        writer.put(b"\"\"")
+    } else {
+        put_shown(writer, c)
+    }
 }
 
 /// Whether each byte is written as it is.

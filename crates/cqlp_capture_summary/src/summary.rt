@@ -1,6 +1,6 @@
 //! The statements of a capture.
 
-ghost use Rattle.std.specs.Prelude.{◌≡◌, ◌+◌, ◌<◌, ◌≤◌, IfOk, IfSome, MatchOption, None, Some, length, replicate, vec_capacity};
+ghost use Rattle.std.specs.Prelude.{◌≡◌, ◌==◌, ◌+◌, ◌<◌, ◌≤◌, IfOk, IfSome, MatchOption, None, Some, length, replicate, vec_capacity};
 ghost use Rattle.std.specs.List.{position};
 ghost use Rattle.cqlp_text.specs.Written.{Writes};
 ghost use Rattle.cqlp_capture_summary.specs.Lines.{summary_text};
@@ -349,6 +349,13 @@ impl<A: Allocator> Summary<A> {
             figures: tally.figures(),
             buckets: tally.buckets(),
         })
+    }
+
+    /// Whether there are no other statements.
+    pub fn has_no_others(&self) -> bool
+        ensures { result ≡ (self.now.others.count == 0) }
+    {
+        self.others[0].count() == 0
     }
 
     /// What is counted of all other statements.

@@ -180,12 +180,15 @@ pub record IsHistogramAlone (is_json : Bool) (rows : List Row) : Type 0 where
   pub no_interval : IsNumber 32 (codes "every") rows None
   pub no_literals : IsFlag (codes "literal") rows false
 
--- each request, or a summary of them, as lines or as JSON; what lines are to have is asked of them alone
+-- each request, as a line, as JSON or as CSV, or a summary of them; what lines are to have is asked of them alone
 abbrev pub IsExchangesForm : List Row → ExchangesAs → Type 0
 IsExchangesForm rows (exchanges_as.Lines lines values) =
-    IsFlag (codes "summary") rows false × IsFlag (codes "json") rows false × AreLines rows lines × IsFlag (codes "values") rows values
+    IsFlag (codes "summary") rows false × IsFlag (codes "json") rows false × IsFlag (codes "csv") rows false × AreLines rows lines
+    × IsFlag (codes "values") rows values
 IsExchangesForm rows (exchanges_as.Json values) =
     IsFlag (codes "summary") rows false × IsFlag (codes "json") rows true × AreLines rows plain × IsFlag (codes "values") rows values
+IsExchangesForm rows exchanges_as.Csv =
+    IsFlag (codes "summary") rows false × IsFlag (codes "json") rows false × IsFlag (codes "csv") rows true × AreLines rows plain
 IsExchangesForm rows (exchanges_as.Summary b) = IsSummary false rows b × AreLines rows plain
 IsExchangesForm rows (exchanges_as.SummaryJson b) = IsSummary true rows b × AreLines rows plain
 IsExchangesForm rows (exchanges_as.Intervals n is_json) =

@@ -72,6 +72,7 @@ capture =
     ∷ from_one (named (codes "connection"))
     ∷ bound (named (codes "streams"))
     ∷ bound (flag (codes "json"))
+    ∷ bound (flag (codes "csv"))
     ∷ bound (flag (codes "values"))
     ∷ bound (flag (codes "utc"))
     ∷ bound (flag (codes "ends"))

@@ -69,7 +69,8 @@ impl BadValue {
                  the point"
             }
             BadValue::Lines => {
-                "the arguments '--utc' and '--ends' cannot be used with '--json', whose objects have both, or with '--summary', which has no lines of requests"
+                "the arguments '--utc' and '--ends' cannot be used with '--json' or '--csv', which have both, or with '--summary', which has no lines of \
+                 requests"
             }
             BadValue::By => {
                 "invalid value for '--by <WHAT>': it is none of statement, table, client, node, opcode and error"

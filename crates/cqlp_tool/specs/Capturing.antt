@@ -142,6 +142,7 @@ intervals_as false = intervals.Lines
 abbrev pub form_of : ExchangesAs → ExchangeForm
 form_of (asked_as.Lines lines values) = form.Lines (style_of lines values)
 form_of (asked_as.Json values) = form.Json (values_shown values)
+form_of asked_as.Csv = form.Csv
 form_of (asked_as.Summary b) = form.Summary (summary_by b)
 form_of (asked_as.SummaryJson b) = form.SummaryJson (summary_by b)
 form_of (asked_as.Intervals seconds is_json) = form.Intervals seconds (intervals_as is_json)

@@ -539,6 +539,7 @@ fn form_of(asked: ExchangesAs) -> ExchangeForm
     match asked {
         ExchangesAs::Lines { lines, values } => ExchangeForm::Lines(style_of(lines, values)),
         ExchangesAs::Json { values } => ExchangeForm::Json(values_shown(values)),
+        ExchangesAs::Csv => ExchangeForm::Csv,
         ExchangesAs::Summary(by) => ExchangeForm::Summary(summary_by(by)),
         ExchangesAs::SummaryJson(by) => ExchangeForm::SummaryJson(summary_by(by)),
         ExchangesAs::Intervals { seconds, json } => {

@@ -237,12 +237,14 @@ fn changed_captures() {
         assert!(faulty.status == 3 || faulty == whole);
         assert!(whole.kept.starts_with(&faulty.kept) && whole.lines.starts_with(&faulty.lines));
         let by_statement = ExchangeForm::Summary(SummaryBy::Statement(Naming::Fingerprint));
-        let [lines, objects, summary] = [ExchangeForm::Lines(LineStyle::PLAIN), ExchangeForm::Json(ValuesShown::No), by_statement].map(|form| {
+        let forms = [ExchangeForm::Lines(LineStyle::PLAIN), ExchangeForm::Json(ValuesShown::No), ExchangeForm::Csv, by_statement];
+        let [lines, objects, records, summary] = forms.map(|form| {
             let whole = exchanges(&file, usize::MAX, ports, ExchangeFilter::ALL, form);
             assert_eq!(exchanges(&file, most, ports, ExchangeFilter::ALL, form), whole);
             whole
         });
         assert_eq!((objects.0, objects.1.lines().count(), &objects.2), (lines.0, lines.1.lines().count(), &lines.2));
+        assert_eq!((records.0, records.1.lines().count(), &records.2), (lines.0, lines.1.lines().count() + 1, &lines.2));
         assert_eq!((summary.0, &summary.2), (lines.0, &lines.2));
         let (counted, unanswered) = (sum_of(&summary, 2), sum_of(&summary, 4));
         assert_eq!(counted - unanswered, lines.1.lines().filter(|line| line.ends_with(" ms")).count());

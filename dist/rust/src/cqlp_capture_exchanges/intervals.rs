@@ -50,7 +50,7 @@ pub(crate) fn note_in_interval<A: Allocator, B: Allocator>(
     }
 }
 
-fn note_outcome<A: Allocator>(summary: &mut Summary<A>, seconds: u32, outcome: &Outcome) {
+pub(crate) fn note_outcome<A: Allocator>(summary: &mut Summary<A>, seconds: u32, outcome: &Outcome) {
     let occurrence = Occurrence {
         name: b"",
         is_whole_name: true,

@@ -134,7 +134,10 @@ pub(crate) fn put_members<P: Pen>(
 }
 
 /// Takes a value.
-fn put_value<P: Pen>(writer: &mut TextWriter<P>, value: Value<'_>) -> Result<(), SinkFault> {
+pub(crate) fn put_value<P: Pen>(
+    writer: &mut TextWriter<P>,
+    value: Value<'_>,
+) -> Result<(), SinkFault> {
     match value {
         Value::Null => writer.put(b"null"),
         Value::Flag(flag) => writer.put_str(boolean_text(flag)),

@@ -1,11 +1,13 @@
 // Written by dist/erase from crates/cqlp_capture_exchanges/src/lib.rt.
-//! The exchanges on the connections of a capture: each request with its reply, as lines, as JSON, or in a summary.
+//! The exchanges on the connections of a capture: each request with its reply, as lines, as JSON, as CSV, or in a summary.
 
 mod attribute;
 mod batch_name;
 mod bound;
 mod capturing;
 mod connection;
+mod csv_field;
+mod csv_record;
 mod details_line;
 mod details_object;
 mod end;

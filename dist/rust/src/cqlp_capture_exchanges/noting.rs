@@ -4,6 +4,7 @@
 use crate::cqlp_capture_exchanges::attribute::{append_attribute, append_id};
 use crate::cqlp_capture_exchanges::batch_name::{MOST, batch_name};
 use crate::cqlp_capture_exchanges::connection::Connection;
+use crate::cqlp_capture_exchanges::csv_record::note_record;
 use crate::cqlp_capture_exchanges::filter::is_failure;
 use crate::cqlp_capture_exchanges::form::ExchangeForm;
 use crate::cqlp_capture_exchanges::histogram::note_by_time;
@@ -36,6 +37,7 @@ pub(crate) fn note<A: Allocator, B: Allocator>(
     match form {
         ExchangeForm::Lines(_) => {}
         ExchangeForm::Json(_) => {}
+        ExchangeForm::Csv => note_record(summary),
         ExchangeForm::Summary(by) => note_report(summary, by, known, connection, report),
         ExchangeForm::SummaryJson(by) => note_report(summary, by, known, connection, report),
         ExchangeForm::Intervals(seconds, _) => note_in_interval(summary, seconds, report),

@@ -87,7 +87,7 @@ fn put_opening<P: Pen>(
     )
 }
 
-fn protocol_name(opening: Opening) -> &'static str {
+pub(crate) fn protocol_name(opening: Opening) -> &'static str {
     match opening {
         Opening::Tls => "TLS",
         Opening::Http => "HTTP",
@@ -96,7 +96,7 @@ fn protocol_name(opening: Opening) -> &'static str {
     }
 }
 
-fn version_or_null(opening: Opening) -> Value<'static> {
+pub(crate) fn version_or_null(opening: Opening) -> Value<'static> {
     match opening {
         Opening::OtherVersion(version) => Value::Number(u64::from(version)),
         Opening::Frames => Value::Null,
@@ -230,7 +230,7 @@ fn put_last<P: Pen>(writer: &mut TextWriter<P>, last: Last) -> Result<(), SinkFa
     )
 }
 
-fn end_or_null(end: Option<ConnectionEnd>) -> Value<'static> {
+pub(crate) fn end_or_null(end: Option<ConnectionEnd>) -> Value<'static> {
     match end {
         None => Value::Null,
         Some(ConnectionEnd::Reset) => Value::Name("reset"),
@@ -300,7 +300,7 @@ fn put_request_frame<P: Pen>(writer: &mut TextWriter<P>, frame: &Frame) -> Resul
 }
 
 /// Whether all of a text is there that is not there: not, where it was given up.
-fn none_whole(is_given_up: bool) -> Value<'static> {
+pub(crate) fn none_whole(is_given_up: bool) -> Value<'static> {
     if is_given_up {
         Value::Flag(false)
     } else {

@@ -3,6 +3,7 @@
 
 use crate::kit_host::prelude::{Vec};
 use crate::cqlp_capture_exchanges::connection::Connection;
+use crate::cqlp_capture_exchanges::csv_record::{put_csv, put_names};
 use crate::cqlp_capture_exchanges::filter::ExchangeFilter;
 use crate::cqlp_capture_exchanges::form::ExchangeForm;
 use crate::cqlp_capture_exchanges::histogram::put_histogram;
@@ -192,6 +193,7 @@ fn put_report<W: Target, A: Allocator, B: Allocator>(
         ExchangeForm::Json(shown) => {
             put_json_line(writer, known, shown, first, connection, report)
         }
+        ExchangeForm::Csv => put_csv(writer, known, first, summary, connection, report),
         ExchangeForm::Summary(_) => Ok(()),
         ExchangeForm::SummaryJson(_) => Ok(()),
         ExchangeForm::Intervals(seconds, shown) => {
@@ -210,6 +212,7 @@ fn put_ending<W: Target, A: Allocator>(
     match form {
         ExchangeForm::Lines(_) => Ok(()),
         ExchangeForm::Json(_) => Ok(()),
+        ExchangeForm::Csv => put_names(writer, summary),
         ExchangeForm::Summary(by) => put_summary(writer, by.heading(), summary),
         ExchangeForm::SummaryJson(by) => put_objects(writer, by.heading(), summary),
         ExchangeForm::Intervals(seconds, shown) => put_interval(writer, shown, seconds, summary),

@@ -15,6 +15,22 @@ pub fn put_shown_text<P: Pen>(writer: &mut TextWriter<P>, text: &str) -> Result<
     Ok(())
 }
 
+/// Takes a text as it is written between the quotes of a field of CSV: a quote is doubled, and all else is as `put_shown_text` takes it.
+pub fn put_shown_in_field<P: Pen>(writer: &mut TextWriter<P>, text: &str) -> Result<(), SinkFault> {
+    for c in text.chars() {
+        put_in_field(writer, c)?;
+    }
+    Ok(())
+}
+
+fn put_in_field<P: Pen>(writer: &mut TextWriter<P>, c: char) -> Result<(), SinkFault> {
+    if c == '"' {
+        writer.put(b"\"\"")
+    } else {
+        put_shown(writer, c)
+    }
+}
+
 /// Whether each byte is written as it is.
 fn are_plain(bytes: &[u8]) -> bool {
     bytes.iter().all(|byte| is_plain(*byte))

@@ -260,6 +260,11 @@ impl<A: Allocator> Summary<A> {
         })
     }
 
+    /// Whether there are no other statements.
+    pub fn has_no_others(&self) -> bool {
+        self.others[0].count() == 0
+    }
+
     /// What is counted of all other statements.
     pub fn others(&self) -> Figures {
         self.others[0].figures()

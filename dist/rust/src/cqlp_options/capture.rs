@@ -93,6 +93,8 @@ pub enum ExchangesAs {
         /// Likewise.
         values: bool,
     },
+    /// A record of CSV for each.
+    Csv,
     /// A line at the end for each of what they are counted by.
     Summary(SummaryBy),
     /// Likewise a JSON object in a line.
@@ -133,10 +135,13 @@ impl ExchangesAs {
         let values = flag(matches, "values");
         if is_json {
             lines.check_plain()?;
-            Ok(ExchangesAs::Json { values })
-        } else {
-            Ok(ExchangesAs::Lines { lines, values })
+            return Ok(ExchangesAs::Json { values });
         }
+        if flag(matches, "csv") {
+            lines.check_plain()?;
+            return Ok(ExchangesAs::Csv);
+        }
+        Ok(ExchangesAs::Lines { lines, values })
     }
 }
 

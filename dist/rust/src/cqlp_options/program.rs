@@ -329,7 +329,7 @@ const ALL: LimitRange = LimitRange {
 
 /// What `capture` takes. The help of a limit has its range and what the number is where it is not given, and docs/check compares both
 /// with `CaptureLimits`.
-const CAPTURE: [Word; 31] = [
+const CAPTURE: [Word; 32] = [
     Word {
         name: "file",
         form: Form::Files,
@@ -417,7 +417,7 @@ const CAPTURE: [Word; 31] = [
     Word {
         name: "statements",
         form: Form::Text("FILE"),
-        help: "A file with the texts of statements that were prepared before the capture, for lines, --json and --summary, as cqlsh -e \"SELECT JSON \
+        help: "A file with the texts of statements that were prepared before the capture, for lines, --json, --csv and --summary, as cqlsh -e \"SELECT JSON \
             prepared_id, query_string FROM system.prepared_statements\" writes it",
         with: &[],
         without: &["streams", "events", "rows"],
@@ -455,6 +455,13 @@ const CAPTURE: [Word; 31] = [
         help: "Write each request with its reply as a JSON object in a line of its own; with --summary each line of it",
         with: &[],
         without: &["streams"],
+    },
+    Word {
+        name: "csv",
+        form: Form::Flag,
+        help: "Write each request with its reply as a record of CSV, below one with the names of its fields",
+        with: &[],
+        without: &["json", "values", "summary", "events", "rows", "streams"],
     },
     Word {
         name: "values",
