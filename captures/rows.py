@@ -192,8 +192,6 @@ def main(seed, count, program):
         capture = b"".join(of_pcap(case.packets()))
         found = subprocess.run([program, "capture", "--rows", "--connection", "1", "-"], input=capture, stdout=subprocess.PIPE, stderr=subprocess.PIPE)
         if (found.returncode, found.stdout.decode()) != (0, "".join(case.truth.text)):
-            with open(f"/tmp/rows.{number}.pcap", "wb") as file:
-                file.write(capture)
             print(f"other rows with {number}: {found.stderr.decode()}")
 
 

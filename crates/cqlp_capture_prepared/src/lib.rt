@@ -1,4 +1,4 @@
-//! Which types the page of a response has, by what PREPARE said on its connection.
+//! Which types the page of a response has, by what PREPARE said.
 #![tactic(auto)]
 
 mod error;

@@ -1,13 +1,12 @@
 -- Headers of frames that are gathered are lawful.
-use Rattle.std.proofs.Common.{◌≡◌, ◌≤◌, ◌&&◌, Bool, true, false, refl, sym, arith}
-use Rattle.std.specs.Prelude.{ℕ, nat_le, not}
+use Rattle.std.proofs.Common.{◌≡◌, ◌≤◌, ◌&&◌, Bool, true, false, refl, arith}
+use Rattle.std.specs.Prelude.{nat_le, not}
 use Rattle.std.proofs.lemmas.Bool.{leb-true}
 use Rattle.cqlp_note.specs.declared.header.Header.{Header}
-use Rattle.cqlp_note.specs.declared.header.TheConstants.Header.{LONGEST_BODY}
 use Rattle.cqlp_note.specs.declared.opcode.Opcode.{Opcode}
 use Rattle.cqlp_note.specs.declared.opcode.Opcode.TheVariants as opcode
 use Rattle.cqlp_note.specs.Heading.{IsLawful, answers, has}
-use Rattle.cqlp_capture_rows.specs.declared.limits.TheConstants.{LONGEST_PREPARED}
+use Rattle.cqlp_capture_rows.specs.declared.other_limits.TheConstants.{LONGEST_PREPARED}
 use Rattle.cqlp_capture_rows.specs.Frames.{is_result, may_prepare}
 
 both : (a b : Bool) → a && b ≡ true → (a ≡ true) × (b ≡ true)

@@ -5,3 +5,4 @@ pub mod Frames
 pub mod Overheard
 pub mod WrittenOnce
 pub mod Causes
+pub mod Whose

@@ -1,5 +1,5 @@
 -- The frames of other connections that may be PREPAREDs.
-use Rattle.std.specs.Prelude.{◌≡◌, ℕ, ◌==◌, ◌&&◌, not, nat_le, Bool, true, false, List, [], ◌∷◌, ◌++◌, Option, Some, None, if◌then◌else◌}
+use Rattle.std.specs.Prelude.{ℕ, ◌==◌, ◌&&◌, not, nat_le, Bool, true, false, List, [], ◌∷◌, ◌++◌, Option, Some, None, if◌then◌else◌}
 use Rattle.std.specs.Map.{lookup}
 use Rattle.cqlp_note.specs.declared.header.Header.{Header}
 use Rattle.cqlp_note.specs.declared.opcode.Opcode.{Opcode}
@@ -8,7 +8,7 @@ use Rattle.cqlp_note.specs.Heading.{has, header_bytes}
 use Rattle.cqlp_observer_facts.specs.declared.reader.FactsReader.{FactsReader}
 use Rattle.cqlp_observer_facts.specs.Reading.{begun, read}
 use Rattle.cqlp_capture_prepared.specs.Latest.{Latest, none_yet, put, without}
-use Rattle.cqlp_capture_rows.specs.declared.limits.TheConstants.{LONGEST_PREPARED, OTHER_FRAMES}
+use Rattle.cqlp_capture_rows.specs.declared.other_limits.TheConstants.{LONGEST_PREPARED, OTHER_FRAMES}
 
 -- the header, what was read of the body, and the bytes: of the header and of the body, once some of that came
 pub record PreparedFrame : Type 0 where

@@ -6,7 +6,7 @@ use Rattle.cqlp_tcp_reassembly.specs.declared.step.StreamStep.TheVariants as ste
 use Rattle.cqlp_capture_prepared.specs.Keeping.{Keeping, new_keeping, noted, prepared}
 use Rattle.cqlp_capture_frames.specs.Happenings.{Happening, Manner, Begins, Says, Fails, Compressed, Unread, Gap, Ends, Closes}
 use Rattle.cqlp_capture_frames.specs.Directions.{begun, step_reported}
-use Rattle.cqlp_capture_rows.specs.declared.limits.TheConstants.{OTHER_LIMITS, OTHER_STATEMENTS}
+use Rattle.cqlp_capture_rows.specs.declared.other_limits.TheConstants.{OTHER_LIMITS, OTHER_STATEMENTS}
 use Rattle.cqlp_capture_rows.specs.Pages.{id_after}
 
 -- the statements that are known by their ids, and the id that the frame named which is read

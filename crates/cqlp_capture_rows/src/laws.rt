@@ -1,7 +1,7 @@
 //! Laws of what is written of pages. No code needs them.
 
 ghost use Rattle.cqlp_capture_rows.specs.Capturing.{FaultsHaveCauses, OneAnswerOfWriteRows};
-ghost use Rattle.cqlp_capture_rows.specs.Laws.{OneAnswerOfHear, OneAnswerOfNew};
+ghost use Rattle.cqlp_capture_rows.specs.Laws.{ElseOfOthers, LatestOfOthers, OneAnswerOfHear, OneAnswerOfNew, OwnTypesFirst};
 
 /// Where memory is granted `Rows::new` has one answer, and so has `hear` where the output does not fail.
 pub fn one_answer()
@@ -18,4 +18,12 @@ pub fn one_answer_of_write_rows()
 /// reads.
 pub fn faults_have_causes()
     ensures { FaultsHaveCauses }
+{}
+
+/// A page has the types that the last PREPARED on its own connection said of its statement, if they are known, or else those that the last one on any
+/// other connection said.
+pub fn own_types_first()
+    ensures own { OwnTypesFirst }
+    ensures others { ElseOfOthers }
+    ensures latest { LatestOfOthers }
 {}

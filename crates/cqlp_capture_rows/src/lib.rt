@@ -5,6 +5,7 @@ mod capturing;
 pub mod laws;
 mod limits;
 mod other_connections;
+mod other_limits;
 mod other_types;
 mod page;
 mod prepared_frame;
@@ -15,7 +16,6 @@ mod silent;
 mod spot;
 
 pub use capturing::write_rows;
-pub use limits::{
-    EXECUTES, LIMITS, LONGEST_PREPARED, OTHER_FRAMES, OTHER_LIMITS, OTHER_STATEMENTS, STATEMENTS,
-};
+pub use limits::{EXECUTES, LIMITS, STATEMENTS};
+pub use other_limits::{LONGEST_PREPARED, OTHER_FRAMES, OTHER_LIMITS, OTHER_STATEMENTS};
 pub use rows::Rows;

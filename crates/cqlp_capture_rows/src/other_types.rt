@@ -4,7 +4,7 @@ ghost use Rattle.std.specs.Prelude.{◌≡◌, IfOk, OnOk, option_map};
 ghost use Rattle.cqlp_capture_prepared.specs.Keeping.{types_of};
 ghost use Rattle.cqlp_capture_rows.specs.Others.{learned, no_other_types, used_by};
 
-use crate::limits::{OTHER_LIMITS, OTHER_STATEMENTS};
+use crate::other_limits::{OTHER_LIMITS, OTHER_STATEMENTS};
 use crate::page::note_id;
 use crate::silent::Silent;
 use cqlp_capture_frames::{Direction, ReportFault, Transcript};

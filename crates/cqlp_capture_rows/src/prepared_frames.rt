@@ -3,7 +3,7 @@
 ghost use Rattle.std.specs.Prelude.{◌≡◌, IfOk, IsSome, OnErr, OnOk};
 ghost use Rattle.cqlp_capture_rows.specs.Frames.{frame_begins, frame_ends, frame_grows, frame_of, may_prepare, no_frames};
 
-use crate::limits::{LONGEST_PREPARED, OTHER_FRAMES};
+use crate::other_limits::{LONGEST_PREPARED, OTHER_FRAMES};
 use crate::prepared_frame::PreparedFrame;
 use cqlp_capture_prepared::{Latest, NewPreparedError};
 use cqlp_note::{Header, Opcode};

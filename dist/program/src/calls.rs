@@ -1,11 +1,13 @@
 //! Calls that the package does not export: which requests for memory each makes, and what it answers where they are refused; and scalars whose bytes
 //! all lie at the front of the input.
 use crate::cqlp_capture_prepared::{NewPreparedError, PreparedTypes};
+use crate::cqlp_capture_rows::write_rows;
+use crate::cqlp_capture_streams::StreamsLimits;
 use crate::cqlp_cell::{CellReader, FrontScalar, front_scalar};
 use crate::cqlp_grammar::{Event, Sink, SinkFault};
 use crate::cqlp_kind::{Kind, Scalar};
 use crate::cqlp_message::Frame;
-use crate::cqlp_note::{Asked, Limits, NoMemory, Partial};
+use crate::cqlp_note::{Asked, Limits, NoMemory, OfStd, Partial};
 use crate::cqlp_options::{CommandLine, NoTask};
 use crate::cqlp_round_trip::{RoundTripError, write_and_read};
 use crate::cqlp_type::{TypeReader, TypeTable};
@@ -82,6 +84,56 @@ fn memory_that_is_refused() {
                 let wanted = if first <= requests { (Answer::NoMemory, first) } else { (Answer::Granted, requests) };
                 assert_eq!(((said, made), kept), (wanted, 0), "{name} from {first} to {last}");
             }
+        }
+    }
+}
+
+/// A packet of IPv4 with a segment of a connection with a node at port 9042, as a record of a pcap file.
+fn packet(port: u16, number: u32, is_response: bool, payload: &[u8]) -> Vec<u8> {
+    let length = 40 + payload.len();
+    let (ports, ends) = if is_response { ([9042, port], [2, 1]) } else { ([port, 9042], [1, 2]) };
+    let record = [0, 0, length as u32, length as u32].map(u32::to_le_bytes).concat();
+    let ip = [&[0x45, 0], &(length as u16).to_be_bytes()[..], &[0, 0, 0x40, 0, 64, 6, 0, 0, 10, 0, 0, ends[0], 10, 0, 0, ends[1]]].concat();
+    let tcp = [&ports.map(u16::to_be_bytes).concat(), &number.to_be_bytes()[..], &[0, 0, 0, 0, 0x50, 0, 0xff, 0xff, 0, 0, 0, 0], payload].concat();
+    [record, ip, tcp].concat()
+}
+
+fn frame(head: [u8; 5], body: &[u8]) -> Vec<u8> {
+    [&head, &(body.len() as u32).to_be_bytes()[..], body].concat()
+}
+
+/// On one connection a statement with the id 69 and a column of ints is prepared, whose response comes in two pieces, and on the other one it is executed,
+/// whose page describes no columns.
+fn prepared_elsewhere() -> Vec<u8> {
+    let types = b"\0\0\0\x04\0\x01i\0\0\0\x01\0\0\0\0\0\0\0\0\0\x01k\0\x01t\0\0\0\x01\0\0\0\x01\0\x01k\0\x01t\0\x01c\0\x09";
+    let (execute, prepared) = (frame([4, 0, 0, 1, 0x0a], b"\0\x01i\0\x01\x02"), frame([0x84, 0, 0, 0, 8], types));
+    let page = frame([0x84, 0, 0, 1, 8], b"\0\0\0\x02\0\0\0\x04\0\0\0\x01\0\0\0\x01\0\0\0\x04\0\0\0\x07");
+    let header = [0xa1b2_c3d4_u32, 0x0004_0002, 0, 0, 0x0004_0000, 101].map(u32::to_le_bytes).concat();
+    let packets = [packet(1, 1, false, &execute), packet(2, 1, true, &prepared[..20]), packet(2, 21, true, &prepared[20..]), packet(1, 1, true, &page)];
+    [header, packets.concat()].concat()
+}
+
+/// The pages of one connection, of which another one has prepared the statement: each request for memory is refused, with all after it or alone. Then what was
+/// written is a front of all, or less memory was asked for.
+#[test]
+fn rows_without_memory() {
+    let file = prepared_elsewhere();
+    let written = |first, last| {
+        let (mut input, out, err) = (OfStd::new(&file[..]), OfStd::new(Vec::with_capacity(1_000)), OfStd::new(Vec::with_capacity(1_000)));
+        let write = || write_rows(Global, StreamsLimits::DEFAULT, &[9042], 1, &mut input, out, err);
+        let (((status, out, err), requests), _, kept) = measured(|| refusing(first, last, write));
+        let text = |output: OfStd<Vec<u8>>| String::from_utf8(output.into_inner()).unwrap();
+        assert_eq!(kept, 0);
+        (status, text(out), text(err), requests)
+    };
+    let (status, whole, said, requests) = written(u64::MAX, u64::MAX);
+    assert_eq!((status, &whole[..]), (0, "1:1 0\npage 1 columns 1 rows\n7\n"), "{said}");
+    for first in 1..=requests {
+        for last in [first, u64::MAX] {
+            let (status, out, said, asked) = written(first, last);
+            let went_on = last == first && asked > requests && (status, &out) == (0, &whole);
+            assert!(went_on || (status, &said[..]) == (3, "cqlp: no memory\n"), "from {first} to {last}: {said}");
+            assert!(whole.starts_with(&out), "from {first} to {last}: {out}");
         }
     }
 }

@@ -1,5 +1,5 @@
 // Written by dist/erase from crates/cqlp_capture_prepared/src/lib.rt.
-//! Which types the page of a response has, by what PREPARE said on its connection.
+//! Which types the page of a response has, by what PREPARE said.
 
 mod error;
 mod execute;

@@ -10,7 +10,7 @@ use crate::cqlp_note::NoMemory;
 use crate::cqlp_type::TypeTable;
 use crate::kit_std::alloc::{Allocator, Global};
 
-/// The types of the statements that were prepared on one connection, and the statements that EXECUTEs name which wait for their responses.
+/// The types of statements that were prepared, and the statements that EXECUTEs name which wait for their responses.
 ///
 /// A page whose metadata the server left out (flag No_metadata, section 4.2.5.2 of `native_protocol_v4.spec`) has the types that the PREPARED
 /// response of its statement had. `new` takes memory for both lists, in two requests; after it only `prepared` and `types_for` ask for some,

@@ -2,7 +2,7 @@
 //! What PREPAREDs on other connections say of statements.
 
 use crate::kit_host::prelude::{AllocGlobal, Clone, ToCopy};
-use crate::cqlp_capture_rows::limits::{OTHER_LIMITS, OTHER_STATEMENTS};
+use crate::cqlp_capture_rows::other_limits::{OTHER_LIMITS, OTHER_STATEMENTS};
 use crate::cqlp_capture_rows::page::note_id;
 use crate::cqlp_capture_rows::silent::Silent;
 use crate::cqlp_capture_frames::{Direction, ReportFault, Transcript};

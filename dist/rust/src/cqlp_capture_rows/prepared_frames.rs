@@ -2,7 +2,7 @@
 //! The frames of other connections that may be PREPAREDs, while their bytes come.
 
 use crate::kit_host::prelude::{AllocGlobal, Clone, ToCopy};
-use crate::cqlp_capture_rows::limits::{LONGEST_PREPARED, OTHER_FRAMES};
+use crate::cqlp_capture_rows::other_limits::{LONGEST_PREPARED, OTHER_FRAMES};
 use crate::cqlp_capture_rows::prepared_frame::PreparedFrame;
 use crate::cqlp_capture_prepared::{Latest, NewPreparedError};
 use crate::cqlp_note::{Header, Opcode};
