@@ -1,8 +1,7 @@
 // Writes values of six shapes with their lengths into a Vec that has room: by `write_value` of the library that dist/erase makes, and by
 // hand, where each is trusted, and checked, where it is measured and compared with its type first. A line for each shape.
 use cqlp::frame::{Atom, TypeTree, Value, write_value};
-use cqlp::memory::Box as Boxed;
-use cqlp::{Global, Kind, OfStd};
+use cqlp::{Kind, OfStd};
 use std::time::{Duration, Instant};
 
 const TIMES: usize = 10_000;
@@ -91,8 +90,8 @@ fn varchar(i: usize) -> Value {
     Value::Leaf(Atom::Varchar(letters(i).into()))
 }
 
-fn boxed(of: Kind) -> Boxed<TypeTree> {
-    Boxed::new(Global, TypeTree::Plain(of)).unwrap()
+fn boxed(of: Kind) -> Box<TypeTree> {
+    Box::new(TypeTree::Plain(of))
 }
 
 type Shape = (&'static str, Value, TypeTree, Hand, HandType);

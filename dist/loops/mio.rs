@@ -10,7 +10,7 @@ mod serve_rows;
 use cqlp::frame::{Message, QueryParams};
 use cqlp::rows::RowSink;
 use cqlp::wire::{ClientSide, FrameReader};
-use cqlp::{Consistency, Decoder, Global, Limits, SinkFault};
+use cqlp::{Consistency, Decoder, Limits, SinkFault};
 use mio::net::TcpStream;
 use mio::{Events, Interest, Poll, Token};
 use std::io::{ErrorKind, Result as IoResult};
@@ -34,7 +34,7 @@ impl Task {
     fn begin(poll: &Poll, token: usize, server: SocketAddr) -> Result<Task> {
         let mut stream = TcpStream::connect(server)?;
         poll.registry().register(&mut stream, Token(token), Interest::READABLE | Interest::WRITABLE)?;
-        let (mut side, decoder) = (ClientSide::new(1)?, Decoder::new(Global, Limits::DEFAULT)?);
+        let (mut side, decoder) = (ClientSide::new(1)?, Decoder::new(Limits::DEFAULT)?);
         side.ask(Message::startup(), ())?;
         Ok(Task { stream, side, decoder, is_open: false, is_done: false })
     }

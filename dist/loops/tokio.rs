@@ -10,7 +10,7 @@ mod serve_rows;
 use cqlp::frame::{Message, QueryParams};
 use cqlp::rows::RowSink;
 use cqlp::wire::{ClientSide, FrameReader};
-use cqlp::{Consistency, Decoder, Global, Limits};
+use cqlp::{Consistency, Decoder, Limits};
 use std::net::{SocketAddr, TcpListener};
 use tokio::io::{AsyncReadExt, AsyncWriteExt};
 use tokio::net::TcpStream;
@@ -35,7 +35,7 @@ async fn exchange(stream: &mut TcpStream, side: &mut ClientSide<()>) -> Result<(
 /// How many rows a page has, and the sum of its totals.
 async fn sum(server: SocketAddr, text: String) -> Result<(u64, i64)> {
     let mut stream = TcpStream::connect(server).await?;
-    let (mut side, mut decoder) = (ClientSide::new(1)?, Decoder::new(Global, Limits::DEFAULT)?);
+    let (mut side, mut decoder) = (ClientSide::new(1)?, Decoder::new(Limits::DEFAULT)?);
     side.ask(Message::startup(), ())?;
     while side.hear()?.is_none() {
         exchange(&mut stream, &mut side).await?;

@@ -1,6 +1,5 @@
 //! What the sources use of `hex`.
-use crate::kit_std::alloc::Allocator;
-use crate::kit_std::vec::Vec;
+use crate::kit_std::vec::{KitVec, Vec};
 
 #[derive(Clone, Copy, Debug, PartialEq, Eq)]
 pub enum FromHexError {
@@ -23,13 +22,13 @@ pub fn encode_to_slice(bytes: &[u8], digits: &mut [u8]) -> Result<(), FromHexErr
 
 /// The bytes that pairs of digits are.
 #[allow(dead_code)]
-pub fn decode<A: Allocator>(alloc: A, digits: &[u8]) -> Result<Vec<u8, A>, FromHexError> {
+pub fn decode(digits: &[u8]) -> Result<Vec<u8>, FromHexError> {
     let digit = |n: u8| char::from(n).to_digit(16).and_then(|n| u8::try_from(n).ok()).ok_or(FromHexError::NoHex);
     let pairs = digits.chunks_exact(2);
     if !pairs.remainder().is_empty() {
         return Err(FromHexError::NoHex);
     }
-    let mut bytes = Vec::with_capacity(alloc, pairs.len()).map_err(|_| FromHexError::OutOfMemory)?;
+    let mut bytes = Vec::kit_with_capacity(pairs.len()).map_err(|_| FromHexError::OutOfMemory)?;
     for pair in pairs {
         bytes.push_reserved(digit(pair[0])? << 4 | digit(pair[1])?);
     }

@@ -2,7 +2,7 @@
 //! its cells, `each` gives them to the `Column` of their column, `batches` gives the events to `Columns`, and `pages` reads them by `PageColumns`. It writes how
 //! many cells there were.
 use cqlp::columns::{BatchLimits, Cell, Column, Columns, PageColumns, Stop, TakeError};
-use cqlp::{Decoder, Event, Global, Kind, Limits, Sink, SinkFault, Step};
+use cqlp::{Decoder, Event, Kind, Limits, Sink, SinkFault, Step};
 use std::io::Read;
 
 const ROWS: u32 = 4096;
@@ -102,8 +102,8 @@ impl Sink for Rest {
 
 /// Reads the events of a stream into columns, and counts the cells.
 fn read(stream: &[u8], kinds: &[Kind]) -> usize {
-    let mut decoder = Decoder::new(Global, Limits::DEFAULT).unwrap();
-    let mut page = PageColumns::new(Columns::new(Global, LIMITS, kinds).unwrap(), Rest);
+    let mut decoder = Decoder::new(Limits::DEFAULT).unwrap();
+    let mut page = PageColumns::new(Columns::new(LIMITS, kinds).unwrap(), Rest);
     let mut cells = 0;
     for piece in stream.chunks(PIECE) {
         let mut rest = piece;
@@ -126,7 +126,7 @@ fn read(stream: &[u8], kinds: &[Kind]) -> usize {
 
 /// Hands the events of a stream to a sink.
 fn hand<S: Sink>(stream: &[u8], sink: &mut S) {
-    let mut decoder = Decoder::new(Global, Limits::DEFAULT).unwrap();
+    let mut decoder = Decoder::new(Limits::DEFAULT).unwrap();
     for piece in stream.chunks(PIECE) {
         let mut rest = piece;
         loop {
@@ -168,7 +168,7 @@ fn main() {
             sink.cells
         }
         "each" => {
-            let column = |kind: &Kind| Column::new(Global, *kind, ROWS, 1 << 17).unwrap();
+            let column = |kind: &Kind| Column::new(*kind, ROWS, 1 << 17).unwrap();
             let mut sink = Each { columns: kinds.iter().map(column).collect(), cells: 0 };
             hand(&stream, &mut sink);
             sink.clear();
@@ -176,7 +176,7 @@ fn main() {
         }
         "pages" => read(&stream, &kinds),
         _ => {
-            let mut sink = Batches { batch: Columns::new(Global, LIMITS, &kinds).unwrap(), cells: 0 };
+            let mut sink = Batches { batch: Columns::new(LIMITS, &kinds).unwrap(), cells: 0 };
             hand(&stream, &mut sink);
             sink.clear();
             sink.cells

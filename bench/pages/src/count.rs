@@ -1,6 +1,6 @@
 //! Counts the events of streams.
 
-use cqlp::{Decoder, Event, Global, Limits, OfStd, Outcome, Sink, SinkFault, Source, TypeTable, run};
+use cqlp::{Decoder, Event, Limits, OfStd, Outcome, Sink, SinkFault, Source, TypeTable, run};
 use std::error::Error;
 use std::fs::File;
 use std::io::stdin;
@@ -21,7 +21,7 @@ impl Sink for Counter {
 /// Prints how many events standard input says, and how it ends. The types of the last metadata of the stream with these digits, if
 /// there are any, are given for the first page without metadata.
 pub fn print_count(digits: Option<&str>) -> Result<(), Box<dyn Error>> {
-    let mut decoder = Decoder::new(Global, Limits::DEFAULT)?;
+    let mut decoder = Decoder::new(Limits::DEFAULT)?;
     if let Some(digits) = digits {
         decoder.give(types(&bytes_of(digits)?)?).map_err(|error| format!("{:?}", error.why))?;
     }
@@ -43,7 +43,7 @@ fn count<S: Source>(decoder: &mut Decoder, input: &mut S) -> (u64, Outcome) {
 
 /// The types of the last metadata of a stream.
 fn types(stream: &[u8]) -> Result<TypeTable, Box<dyn Error>> {
-    let mut decoder = Decoder::new(Global, Limits::DEFAULT)?;
+    let mut decoder = Decoder::new(Limits::DEFAULT)?;
     count(&mut decoder, &mut OfStd::new(stream));
     Ok(decoder.table().clone_table()?)
 }

@@ -13,8 +13,7 @@ mod pages;
 use crate::count::print_count;
 use crate::pages::{Column, cells, columns_of, page};
 use cqlp::frame::{Frame, PageError, PageWriter, Value, append, encode, value_size};
-use cqlp::memory::Vec as Bytes;
-use cqlp::{Global, OfStd};
+use cqlp::OfStd;
 use std::error::Error;
 use std::io::{Write, stdin, stdout};
 
@@ -79,12 +78,12 @@ fn written(task: &Task) -> Result<Vec<u8>, Box<dyn Error>> {
 }
 
 fn appended(frame: &Frame, times: u32) -> Result<Vec<u8>, Box<dyn Error>> {
-    let mut bytes = Bytes::new(Global);
+    let mut bytes = Vec::new();
     for _ in 0..times {
         bytes.clear();
         append(frame, &mut bytes)?;
     }
-    Ok(bytes.into_std())
+    Ok(bytes)
 }
 
 fn write_whole(frame: &Frame, times: u32, target: &mut OfStd<Vec<u8>>) -> Result<(), Box<dyn Error>> {

@@ -1,8 +1,8 @@
 //! The pages of bench/pages.py.
 
 use cqlp::frame::{Atom, Frame, Message, Metadata, Rows, Spec, TypeTree, Value};
-use cqlp::memory::{AllocError, Box};
-use cqlp::{Global, Kind};
+use cqlp::memory::{AllocError, try_box};
+use cqlp::Kind;
 
 /// What a column holds.
 #[derive(Clone, Copy)]
@@ -51,7 +51,7 @@ fn spec(column: Column, place: usize) -> Result<Spec, AllocError> {
 }
 
 fn tree(column: Column) -> Result<TypeTree, AllocError> {
-    let plain = |kind| Ok::<_, AllocError>(Box::new(Global, TypeTree::Plain(kind))?);
+    let plain = |kind| Ok::<_, AllocError>(try_box(TypeTree::Plain(kind))?);
     Ok(match column {
         Column::Int => TypeTree::Plain(Kind::Int),
         Column::Bigint => TypeTree::Plain(Kind::Bigint),

@@ -7,7 +7,7 @@ mod hand;
 mod wide;
 
 use cqlp::rows::{FromCell, LentCell, Mismatch, page_rows};
-use cqlp::{Decoder, Event, Fed, Global, Limits, Sink, SinkFault, Step};
+use cqlp::{Decoder, Event, Fed, Limits, Sink, SinkFault, Step};
 use std::collections::BTreeMap;
 use std::error::Error;
 use std::hint::black_box;
@@ -86,7 +86,7 @@ impl Sink for Counted {
 }
 
 fn decoder() -> Decoder {
-    Decoder::new(Global, Limits::DEFAULT).expect("memory for a decoder")
+    Decoder::new(Limits::DEFAULT).expect("memory for a decoder")
 }
 
 /// By the loop that `feed` stands for.

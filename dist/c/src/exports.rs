@@ -1,6 +1,5 @@
 //! What C calls, as include/cqlp.h has it. Not proved. Pointers are what the header asks of them; a slice of no length may be null.
 use crate::cqlp_c::*;
-use crate::kit_std::alloc::Global;
 use core::slice::{from_raw_parts, from_raw_parts_mut};
 
 unsafe fn slice<'a, T>(at: *const T, len: usize) -> &'a [T] {
@@ -13,12 +12,12 @@ unsafe fn slice_mut<'a, T>(at: *mut T, len: usize) -> &'a mut [T] {
 
 #[unsafe(no_mangle)]
 pub extern "C" fn cqlp_new(limits: &CqlpLimits, decoder: &mut CqlpDecoder) -> u32 {
-    crate::cqlp_c::cqlp_new(Global, limits, decoder)
+    crate::cqlp_c::cqlp_new(limits, decoder)
 }
 
 #[unsafe(no_mangle)]
 pub extern "C" fn cqlp_new_lenient(limits: &CqlpLimits, decoder: &mut CqlpDecoder) -> u32 {
-    crate::cqlp_c::cqlp_new_lenient(Global, limits, decoder)
+    crate::cqlp_c::cqlp_new_lenient(limits, decoder)
 }
 
 #[unsafe(no_mangle)]
@@ -31,97 +30,97 @@ pub unsafe extern "C" fn cqlp_next(
     batch: &mut CqlpBatch,
 ) -> u32 {
     let (input, events) = unsafe { (slice(input, length), slice_mut(events, room)) };
-    crate::cqlp_c::cqlp_next(Global, decoder, input, events, batch)
+    crate::cqlp_c::cqlp_next(decoder, input, events, batch)
 }
 
 #[unsafe(no_mangle)]
 pub extern "C" fn cqlp_skip(decoder: &mut CqlpDecoder, skipped: &mut CqlpSkipped) -> u32 {
-    crate::cqlp_c::cqlp_skip(Global, decoder, skipped)
+    crate::cqlp_c::cqlp_skip(decoder, skipped)
 }
 
 #[unsafe(no_mangle)]
 pub extern "C" fn cqlp_finish(decoder: &mut CqlpDecoder, end: &mut CqlpEnd) -> u32 {
-    crate::cqlp_c::cqlp_finish(Global, decoder, end)
+    crate::cqlp_c::cqlp_finish(decoder, end)
 }
 
 #[unsafe(no_mangle)]
 pub extern "C" fn cqlp_held(decoder: &mut CqlpDecoder, held: &mut CqlpHeld) -> u32 {
-    crate::cqlp_c::cqlp_held(Global, decoder, held)
+    crate::cqlp_c::cqlp_held(decoder, held)
 }
 
 #[unsafe(no_mangle)]
 pub extern "C" fn cqlp_free(decoder: &mut CqlpDecoder) -> u32 {
-    crate::cqlp_c::cqlp_free(Global, decoder)
+    crate::cqlp_c::cqlp_free(decoder)
 }
 
 #[unsafe(no_mangle)]
 pub unsafe extern "C" fn cqlp_check(limits: &CqlpLimits, stream: *const u8, length: usize, end: &mut CqlpEnd) -> u32 {
-    crate::cqlp_c::cqlp_check(Global, limits, unsafe { slice(stream, length) }, end)
+    crate::cqlp_c::cqlp_check(limits, unsafe { slice(stream, length) }, end)
 }
 
 #[unsafe(no_mangle)]
 pub extern "C" fn cqlp_types_of(decoder: &mut CqlpDecoder, types: &mut CqlpTypes) -> u32 {
-    crate::cqlp_c::cqlp_types_of(Global, decoder, types)
+    crate::cqlp_c::cqlp_types_of(decoder, types)
 }
 
 #[unsafe(no_mangle)]
 pub extern "C" fn cqlp_give(decoder: &mut CqlpDecoder, types: &mut CqlpTypes) -> u32 {
-    crate::cqlp_c::cqlp_give(Global, decoder, types)
+    crate::cqlp_c::cqlp_give(decoder, types)
 }
 
 #[unsafe(no_mangle)]
 pub extern "C" fn cqlp_take_given(decoder: &mut CqlpDecoder, types: &mut CqlpTypes) -> u32 {
-    crate::cqlp_c::cqlp_take_given(Global, decoder, types)
+    crate::cqlp_c::cqlp_take_given(decoder, types)
 }
 
 #[unsafe(no_mangle)]
 pub extern "C" fn cqlp_types_free(types: &mut CqlpTypes) -> u32 {
-    crate::cqlp_c::cqlp_types_free(Global, types)
+    crate::cqlp_c::cqlp_types_free(types)
 }
 
 #[unsafe(no_mangle)]
 pub extern "C" fn cqlp_client_new(slots: u32, client: &mut CqlpClient) -> u32 {
-    crate::cqlp_c::cqlp_client_new(Global, slots, client)
+    crate::cqlp_c::cqlp_client_new(slots, client)
 }
 
 #[unsafe(no_mangle)]
 pub extern "C" fn cqlp_client_begin(client: &mut CqlpClient, opcode: u8, carried: u64, ticket: &mut CqlpTicket) -> u32 {
-    crate::cqlp_c::cqlp_client_begin(Global, client, opcode, carried, ticket)
+    crate::cqlp_c::cqlp_client_begin(client, opcode, carried, ticket)
 }
 
 #[unsafe(no_mangle)]
 pub extern "C" fn cqlp_client_reply(client: &mut CqlpClient, frame: &CqlpEvent, reply: &mut CqlpReply) -> u32 {
-    crate::cqlp_c::cqlp_client_reply(Global, client, frame, reply)
+    crate::cqlp_c::cqlp_client_reply(client, frame, reply)
 }
 
 #[unsafe(no_mangle)]
 pub extern "C" fn cqlp_client_cancel(client: &mut CqlpClient, ticket: &CqlpTicket) -> u32 {
-    crate::cqlp_c::cqlp_client_cancel(Global, client, ticket)
+    crate::cqlp_c::cqlp_client_cancel(client, ticket)
 }
 
 #[unsafe(no_mangle)]
 pub extern "C" fn cqlp_client_phase(client: &mut CqlpClient, phase: &mut u8) -> u32 {
-    crate::cqlp_c::cqlp_client_phase(Global, client, phase)
+    crate::cqlp_c::cqlp_client_phase(client, phase)
 }
 
 #[unsafe(no_mangle)]
 pub extern "C" fn cqlp_client_free(client: &mut CqlpClient) -> u32 {
-    crate::cqlp_c::cqlp_client_free(Global, client)
+    crate::cqlp_c::cqlp_client_free(client)
 }
 
 #[unsafe(no_mangle)]
 pub extern "C" fn cqlp_server_new(slots: u32, server: &mut CqlpServer) -> u32 {
-    crate::cqlp_c::cqlp_server_new(Global, slots, server)
+    crate::cqlp_c::cqlp_server_new(slots, server)
 }
 
 #[unsafe(no_mangle)]
 pub extern "C" fn cqlp_server_accept(server: &mut CqlpServer, frame: &CqlpEvent, carried: u64) -> u32 {
-    crate::cqlp_c::cqlp_server_accept(Global, server, frame, carried)
+    crate::cqlp_c::cqlp_server_accept(server, frame, carried)
 }
 
 #[unsafe(no_mangle)]
 pub extern "C" fn cqlp_server_answer(server: &mut CqlpServer, stream: i16, opcode: u8, answered: &mut CqlpAnswered) -> u32 {
-    crate::cqlp_c::cqlp_server_answer(Global, server, stream, opcode, answered)
+    crate::cqlp_c::cqlp_server_answer(server, stream, opcode, answered)
 }
 
 #[unsafe(no_mangle)]
@@ -131,12 +130,12 @@ pub extern "C" fn cqlp_server_event(length: u32, flags: u8, bytes: &mut [u8; 9])
 
 #[unsafe(no_mangle)]
 pub extern "C" fn cqlp_server_phase(server: &mut CqlpServer, phase: &mut u8) -> u32 {
-    crate::cqlp_c::cqlp_server_phase(Global, server, phase)
+    crate::cqlp_c::cqlp_server_phase(server, phase)
 }
 
 #[unsafe(no_mangle)]
 pub extern "C" fn cqlp_server_free(server: &mut CqlpServer) -> u32 {
-    crate::cqlp_c::cqlp_server_free(Global, server)
+    crate::cqlp_c::cqlp_server_free(server)
 }
 
 #[unsafe(no_mangle)]
@@ -160,12 +159,12 @@ pub unsafe extern "C" fn cqlp_encode(
     encoded: &mut CqlpEncoded,
 ) -> u32 {
     let (events, contents, bytes) = unsafe { (slice(events, count), slice(contents, length), slice_mut(bytes, room)) };
-    crate::cqlp_c::cqlp_encode(Global, events, contents, bytes, encoded)
+    crate::cqlp_c::cqlp_encode(events, contents, bytes, encoded)
 }
 
 #[unsafe(no_mangle)]
 pub unsafe extern "C" fn cqlp_columns_new(limits: &CqlpBatchLimits, kinds: *const u8, count: usize, columns: &mut CqlpColumns) -> u32 {
-    crate::cqlp_c::cqlp_columns_new(Global, limits, unsafe { slice(kinds, count) }, columns)
+    crate::cqlp_c::cqlp_columns_new(limits, unsafe { slice(kinds, count) }, columns)
 }
 
 #[unsafe(no_mangle)]
@@ -177,22 +176,22 @@ pub unsafe extern "C" fn cqlp_columns_next(
     event: &mut CqlpEvent,
     batch: &mut CqlpBatch,
 ) -> u32 {
-    crate::cqlp_c::cqlp_columns_next(Global, decoder, columns, unsafe { slice(input, length) }, event, batch)
+    crate::cqlp_c::cqlp_columns_next(decoder, columns, unsafe { slice(input, length) }, event, batch)
 }
 
 #[unsafe(no_mangle)]
 pub extern "C" fn cqlp_columns_get(columns: &mut CqlpColumns, column: usize, view: &mut CqlpColumn) -> u32 {
-    crate::cqlp_c::cqlp_columns_get(Global, columns, column, view)
+    crate::cqlp_c::cqlp_columns_get(columns, column, view)
 }
 
 #[unsafe(no_mangle)]
 pub extern "C" fn cqlp_columns_clear(columns: &mut CqlpColumns) -> u32 {
-    crate::cqlp_c::cqlp_columns_clear(Global, columns)
+    crate::cqlp_c::cqlp_columns_clear(columns)
 }
 
 #[unsafe(no_mangle)]
 pub extern "C" fn cqlp_columns_free(columns: &mut CqlpColumns) -> u32 {
-    crate::cqlp_c::cqlp_columns_free(Global, columns)
+    crate::cqlp_c::cqlp_columns_free(columns)
 }
 
 #[unsafe(no_mangle)]
@@ -214,7 +213,7 @@ pub unsafe extern "C" fn cqlp_page_begin(
     begun: &mut CqlpEncoded,
 ) -> u32 {
     let (events, contents, bytes) = unsafe { (slice(events, count), slice(contents, length), slice_mut(bytes, room)) };
-    crate::cqlp_c::cqlp_page_begin(Global, events, contents, size, bytes, page, begun)
+    crate::cqlp_c::cqlp_page_begin(events, contents, size, bytes, page, begun)
 }
 
 #[unsafe(no_mangle)]
@@ -229,15 +228,15 @@ pub unsafe extern "C" fn cqlp_page_put(
     told: &mut CqlpPut,
 ) -> u32 {
     let (events, contents, bytes) = unsafe { (slice(events, count), slice(contents, length), slice_mut(bytes, room)) };
-    crate::cqlp_c::cqlp_page_put(Global, page, events, contents, bytes, told)
+    crate::cqlp_c::cqlp_page_put(page, events, contents, bytes, told)
 }
 
 #[unsafe(no_mangle)]
 pub extern "C" fn cqlp_page_end(page: &mut CqlpPage) -> u32 {
-    crate::cqlp_c::cqlp_page_end(Global, page)
+    crate::cqlp_c::cqlp_page_end(page)
 }
 
 #[unsafe(no_mangle)]
 pub extern "C" fn cqlp_page_free(page: &mut CqlpPage) -> u32 {
-    crate::cqlp_c::cqlp_page_free(Global, page)
+    crate::cqlp_c::cqlp_page_free(page)
 }

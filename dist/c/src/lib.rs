@@ -11,5 +11,4 @@ extern crate alloc;
 mod kit_std;
 mod exports;
 mod memory;
-mod raw_box;
 // The modules.

@@ -3,7 +3,7 @@
 #![forbid(unsafe_code)]
 
 use cqlp::frame::{Frame, Message, Metadata, PageWriter, Rows, Spec, TypeTree, Value, encode, read_value, value_size, write_value};
-use cqlp::{Decoder, Event, Global, Kind, Limits, OfStd, Scalar, Sink, SinkFault, run};
+use cqlp::{Decoder, Event, Kind, Limits, OfStd, Scalar, Sink, SinkFault, run};
 use std::error::Error;
 use std::io::{Write, stdout};
 
@@ -16,7 +16,7 @@ fn cells() -> Vec<Value> {
 fn page(cells: Vec<Value>) -> Frame {
     let columns = vec![Spec::new("id", Kind::Int), Spec::new("name", Kind::Varchar)];
     let meta = Metadata::of_table("shop", "item", columns);
-    Frame::plain(7, Message::Rows(Rows { meta, rows: 2, cells: cells.into() }))
+    Frame::plain(7, Message::Rows(Rows { meta, rows: 2, cells }))
 }
 
 /// The bytes of the page, whose cells come one by one. The header says how long they are, so that is known before the first of them.
@@ -50,7 +50,7 @@ pub(crate) fn show_page(out: &mut dyn Write) -> Result<(), Box<dyn Error>> {
     let mut whole = OfStd::new(Vec::new());
     encode(&page(cells()), &mut whole)?;
     let bytes = whole.into_inner();
-    let mut decoder = Decoder::new(Global, Limits::DEFAULT)?;
+    let mut decoder = Decoder::new(Limits::DEFAULT)?;
     let outcome = run(&mut decoder, &mut OfStd::new(&bytes[..]), &mut RowPrinter(out), u64::MAX);
     writeln!(out, "{outcome:?}")?;
     Ok(writeln!(out, "cell by cell the same bytes: {}", by_cell()? == bytes)?)
@@ -59,11 +59,11 @@ pub(crate) fn show_page(out: &mut dyn Write) -> Result<(), Box<dyn Error>> {
 /// Writes the value `[1, null]` of the type `list<int>`, and reads it back.
 pub(crate) fn show_value(out: &mut dyn Write) -> Result<(), Box<dyn Error>> {
     let tree = TypeTree::list(Kind::Int);
-    let value = Value::List(vec![Value::from(1), Value::Null].into());
+    let value = Value::List(vec![Value::from(1), Value::Null]);
     let mut target = OfStd::new(Vec::new());
     write_value(&value, Some(&tree), &mut target)?;
     let bytes = target.into_inner();
-    let read = read_value(Global, &Limits::DEFAULT, Some(&tree), &bytes)?;
+    let read = read_value(&Limits::DEFAULT, Some(&tree), &bytes)?;
     Ok(writeln!(out, "{} bytes, and the same value again: {}", bytes.len(), read == value)?)
 }
 

@@ -3,7 +3,7 @@
 #![forbid(unsafe_code)]
 
 use cqlp::session::{Client, Reply, RequestKind, Server};
-use cqlp::{Global, Header, Opcode};
+use cqlp::{Header, Opcode};
 use std::error::Error;
 use std::io::{Write, stdout};
 
@@ -22,7 +22,7 @@ fn deliver(out: &mut dyn Write, client: &mut Client, stream: i16, opcode: Opcode
 
 /// A connection with two slots, from its first request on.
 pub(crate) fn ask(out: &mut dyn Write) -> Done {
-    let client = &mut Client::new(Global, 2)?;
+    let client = &mut Client::new(2)?;
 
     // OPTIONS is answered by SUPPORTED, and then STARTUP by READY.
     let options = client.begin(RequestKind::Options)?;
@@ -60,7 +60,7 @@ fn answer(out: &mut dyn Write, server: &mut Server, stream: i16, opcode: Opcode)
 
 /// The server's side of such a connection: it refuses a query under an id that is taken, and answers the later of two first.
 pub(crate) fn serve(out: &mut dyn Write) -> Done {
-    let server = &mut Server::new(Global, 2)?;
+    let server = &mut Server::new(2)?;
     for (request, response) in [(Opcode::Options, Opcode::Supported), (Opcode::Startup, Opcode::Ready)] {
         accept(out, server, 0, request)?;
         answer(out, server, 0, response)?;

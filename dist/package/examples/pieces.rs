@@ -2,7 +2,7 @@
 //! pieces of 16 bytes, which cut frames and fields anywhere, and counts frames and cells.
 #![forbid(unsafe_code)]
 
-use cqlp::{Decoder, Event, Global, Limits, Refusal, Step};
+use cqlp::{Decoder, Event, Limits, Refusal, Step};
 use std::error::Error;
 use std::io::{Read, Write, stdin, stdout};
 
@@ -42,7 +42,7 @@ fn pull(decoder: &mut Decoder, piece: &[u8], seen: &mut Seen) -> Result<(), Refu
 
 /// Takes all pieces of a stream, to its end or to where it is refused, and reports what was seen and how it ended.
 pub(crate) fn report(input: &mut dyn Read, out: &mut dyn Write) -> Result<(), Box<dyn Error>> {
-    let (mut decoder, mut seen) = (Decoder::new(Global, Limits::DEFAULT)?, Seen::default());
+    let (mut decoder, mut seen) = (Decoder::new(Limits::DEFAULT)?, Seen::default());
     let mut piece = [0; 16];
     loop {
         let count = input.read(&mut piece)?;

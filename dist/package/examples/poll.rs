@@ -10,7 +10,7 @@
 use cqlp::frame::{Message, QueryParams};
 use cqlp::rows::RowSink;
 use cqlp::wire::{ClientSide, FrameReader};
-use cqlp::{Consistency, Decoder, Global, Limits, SinkFault};
+use cqlp::{Consistency, Decoder, Limits, SinkFault};
 use std::io::{ErrorKind, Result as IoResult};
 use std::net::{Ipv4Addr, TcpStream};
 use std::thread;
@@ -33,7 +33,7 @@ impl Task {
     fn begin(port: u16) -> Result<Task> {
         let stream = TcpStream::connect((Ipv4Addr::LOCALHOST, port))?;
         stream.set_nonblocking(true)?;
-        let (mut side, decoder) = (ClientSide::new(1)?, Decoder::new(Global, Limits::DEFAULT)?);
+        let (mut side, decoder) = (ClientSide::new(1)?, Decoder::new(Limits::DEFAULT)?);
         side.ask(Message::startup(), ())?;
         Ok(Task { stream, side, decoder, is_open: false, is_done: false })
     }

@@ -7,7 +7,7 @@
 #![forbid(unsafe_code)]
 
 use cqlp::wire::PageTrack;
-use cqlp::{Decoder, Event, Field, Global, Kind, Limits, Step, query_flag};
+use cqlp::{Decoder, Event, Field, Kind, Limits, Step, query_flag};
 use std::io::{Read, Write};
 use std::net::{Ipv4Addr, Shutdown, TcpListener, TcpStream};
 use std::thread;
@@ -25,7 +25,7 @@ pub(crate) struct Redactor {
 
 impl Redactor {
     pub(crate) fn new(column: &str) -> Result<Redactor> {
-        let decoder = Decoder::new(Global, Limits::DEFAULT)?;
+        let decoder = Decoder::new(Limits::DEFAULT)?;
         Ok(Redactor { decoder, track: PageTrack::default(), column: column.to_string(), passed: 0 })
     }
 

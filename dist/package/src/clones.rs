@@ -1,8 +1,6 @@
 //! Copies and hashes of what a program owns. Written by hand, and not proved.
 //!
-//! A copy asks for memory as those of std do, which ends the program where it is refused; `from_slice` and `from_str` of
-//! [`memory`](crate::memory) answer an error. Two values that are equal have the same hash. With the feature `cli`, `kit_host` has the copies
-//! of vectors, boxes and texts.
+//! A copy asks for memory as those of std do, which ends the program where it is refused. Two values that are equal have the same hash.
 use core::hash::{Hash, Hasher};
 use core::mem::discriminant;
 
@@ -15,49 +13,6 @@ use crate::cqlp_note::{Address, Header, Limits, Opcode};
 use crate::cqlp_session::Ticket;
 use crate::cqlp_type::TypeTree;
 use crate::cqlp_value::{Atom, Value};
-use crate::kit_std::alloc::Allocator;
-use crate::kit_std::boxed::Box;
-use crate::kit_std::string::String;
-use crate::kit_std::vec::Vec;
-
-#[cfg(not(feature = "cli"))]
-impl<T: Clone, A: Allocator + Clone> Clone for Vec<T, A> {
-    fn clone(&self) -> Self {
-        Vec { items: self.items.clone(), alloc: self.alloc.clone() }
-    }
-}
-
-impl<T: Hash, A: Allocator> Hash for Vec<T, A> {
-    fn hash<H: Hasher>(&self, state: &mut H) {
-        self.items.hash(state);
-    }
-}
-
-#[cfg(not(feature = "cli"))]
-impl<A: Allocator + Clone> Clone for String<A> {
-    fn clone(&self) -> Self {
-        String { text: self.text.clone(), alloc: self.alloc.clone() }
-    }
-}
-
-impl<A: Allocator> Hash for String<A> {
-    fn hash<H: Hasher>(&self, state: &mut H) {
-        self.text.hash(state);
-    }
-}
-
-#[cfg(not(feature = "cli"))]
-impl<T: Clone, A: Allocator + Clone> Clone for Box<T, A> {
-    fn clone(&self) -> Self {
-        Box { of: self.of.clone(), alloc: self.alloc.clone() }
-    }
-}
-
-impl<T: Hash, A: Allocator> Hash for Box<T, A> {
-    fn hash<H: Hasher>(&self, state: &mut H) {
-        (**self).hash(state);
-    }
-}
 
 /// Structs, by their fields.
 macro_rules! hash_of_structs {
@@ -225,17 +180,5 @@ impl Default for Value {
 impl Default for Limits {
     fn default() -> Limits {
         Limits::DEFAULT
-    }
-}
-
-impl<T> Default for Vec<T> {
-    fn default() -> Vec<T> {
-        alloc::vec::Vec::new().into()
-    }
-}
-
-impl Default for String {
-    fn default() -> String {
-        alloc::string::String::new().into()
     }
 }

@@ -1,15 +1,13 @@
 //! From std's types to the package's and back. Written by hand, and not proved.
-use alloc::string::String as StdString;
-use alloc::vec::Vec as StdVec;
+use alloc::string::String;
+use alloc::vec::Vec;
 use core::error::Error;
 use core::fmt;
 use core::net::{IpAddr, SocketAddr};
 
 use crate::cqlp_note::Address;
-use crate::cqlp_tcp_segment::{Address as CapturedAddress, Endpoint};
+use crate::cqlp_tcp_segment::{Endpoint, IpAddress};
 use crate::cqlp_value::{Atom, Value};
-use crate::kit_std::string::String;
-use crate::kit_std::vec::Vec;
 
 macro_rules! of_addresses {
     ($($address:ident)*) => {
@@ -35,7 +33,7 @@ macro_rules! of_addresses {
     };
 }
 
-of_addresses! { Address CapturedAddress }
+of_addresses! { Address IpAddress }
 
 impl From<SocketAddr> for Endpoint {
     fn from(socket: SocketAddr) -> Self {
@@ -49,87 +47,10 @@ impl From<Endpoint> for SocketAddr {
     }
 }
 
-/// Memory is asked for as std does, which ends the program where it is refused.
-impl From<&str> for String {
-    fn from(text: &str) -> String {
-        StdString::from(text).into()
-    }
-}
-
-/// It takes no memory.
-impl From<String> for StdString {
-    fn from(text: String) -> StdString {
-        text.into_std()
-    }
-}
-
-/// It takes no memory.
-impl<T> From<Vec<T>> for StdVec<T> {
-    fn from(items: Vec<T>) -> StdVec<T> {
-        items.into_std()
-    }
-}
-
-/// Memory is asked for as std does.
-impl<T> FromIterator<T> for Vec<T> {
-    fn from_iter<I: IntoIterator<Item = T>>(items: I) -> Vec<T> {
-        items.into_iter().collect::<StdVec<T>>().into()
-    }
-}
-
-// With the feature `cli`, `kit_host` has it.
-#[cfg(not(feature = "cli"))]
-impl<T> IntoIterator for Vec<T> {
-    type Item = T;
-    type IntoIter = alloc::vec::IntoIter<T>;
-
-    fn into_iter(self) -> Self::IntoIter {
-        self.into_std().into_iter()
-    }
-}
-
-impl PartialEq<str> for String {
-    fn eq(&self, text: &str) -> bool {
-        self.as_str() == text
-    }
-}
-
-impl PartialEq<&str> for String {
-    fn eq(&self, text: &&str) -> bool {
-        self.as_str() == *text
-    }
-}
-
-impl AsRef<str> for String {
-    fn as_ref(&self) -> &str {
-        self.as_str()
-    }
-}
-
-impl<T> AsRef<[T]> for Vec<T> {
-    fn as_ref(&self) -> &[T] {
-        self.as_slice()
-    }
-}
-
 /// A varchar, and [`Value::Empty`] where the text is empty. Memory is asked for as std does.
 impl From<&str> for Value {
     fn from(text: &str) -> Value {
         String::from(text).into()
-    }
-}
-
-/// A varchar, and [`Value::Empty`] where the text is empty. It takes no memory.
-impl From<StdString> for Value {
-    fn from(text: StdString) -> Value {
-        String::from(text).into()
-    }
-}
-
-/// A blob, and [`Value::Empty`] where there are no bytes. It takes no memory.
-impl From<StdVec<u8>> for Value {
-    fn from(bytes: StdVec<u8>) -> Value {
-        Vec::from(bytes).into()
     }
 }
 
@@ -175,6 +96,6 @@ from_values! {
     f64: Value::Leaf(Atom::Double(bytes)) => f64::from_be_bytes(bytes);
     bool: Value::Leaf(Atom::Boolean(truth)) => truth;
     IpAddr: Value::Leaf(Atom::Inet(address)) => address.into();
-    StdString: Value::Leaf(Atom::Varchar(text) | Atom::Ascii(text)) => text.into_std(), Value::Empty => StdString::new();
-    StdVec<u8>: Value::Leaf(Atom::Blob(bytes) | Atom::Custom(bytes) | Atom::Raw(bytes)) => bytes.into_std(), Value::Empty => StdVec::new();
+    String: Value::Leaf(Atom::Varchar(text) | Atom::Ascii(text)) => text, Value::Empty => String::new();
+    Vec<u8>: Value::Leaf(Atom::Blob(bytes) | Atom::Custom(bytes) | Atom::Raw(bytes)) => bytes, Value::Empty => Vec::new();
 }

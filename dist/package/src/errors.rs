@@ -7,7 +7,6 @@ use crate::cqlp_decode::GiveError;
 use crate::cqlp_note::Refusal;
 use crate::cqlp_session::Refused;
 use crate::cqlp_tcp_segment::NoSegment;
-use crate::kit_std::alloc::Allocator;
 
 /// The reason's name and the offset: `BadVersion at byte 0`.
 impl fmt::Display for Refusal {
@@ -37,20 +36,20 @@ impl fmt::Display for NoSegment {
 impl Error for NoSegment {}
 
 /// Why the table was not taken; the table itself is not shown.
-impl<A: Allocator> fmt::Debug for GiveError<A> {
+impl fmt::Debug for GiveError {
     fn fmt(&self, f: &mut fmt::Formatter<'_>) -> fmt::Result {
         f.debug_struct("GiveError").field("why", &self.why).finish_non_exhaustive()
     }
 }
 
 /// Why the table was not taken.
-impl<A: Allocator> fmt::Display for GiveError<A> {
+impl fmt::Display for GiveError {
     fn fmt(&self, f: &mut fmt::Formatter<'_>) -> fmt::Result {
         self.why.fmt(f)
     }
 }
 
-impl<A: Allocator> Error for GiveError<A> {
+impl Error for GiveError {
     fn source(&self) -> Option<&(dyn Error + 'static)> {
         Some(&self.why)
     }

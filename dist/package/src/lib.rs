@@ -113,9 +113,9 @@
 //! # What is promised
 //!
 //! The sources of this package were proved: each function does what its contract says, for every input, no index is out of
-//! range, no sum wraps, and no loop goes on for ever. What you read here is the same text with the contracts left out, which
-//! `rustc` compiles. The comments beside each item say in words what its contract says. This build itself is not proved: see
-//! README.md for what that leaves to be trusted, and how to check that nothing but contracts was left out.
+//! range, no sum wraps, and no loop goes on for ever. What you read here is the same text without the contracts, and without the
+//! allocators that the sources pass, which `rustc` compiles. The comments beside each item say in words what its contract says. This
+//! build itself is not proved: see README.md for what that leaves to be trusted, and how to check that nothing else was left out.
 //!
 //! * The events are exactly those that the protocol's definition says of the bytes so far, in any cutting into pieces.
 //! * A stream is refused exactly where and why the definition refuses it, and each later call says it again.
@@ -129,7 +129,7 @@
 //!
 #![cfg_attr(feature = "std", doc = "```")]
 #![cfg_attr(not(feature = "std"), doc = "```ignore")]
-//! use cqlp::{Decoder, Event, Finish, Global, Limits, OfStd, Outcome, Scalar, Sink, SinkFault, run};
+//! use cqlp::{Decoder, Event, Finish, Limits, OfStd, Outcome, Scalar, Sink, SinkFault, run};
 //! use std::fs::File;
 //!
 //! /// Adds the ints of all cells.
@@ -148,7 +148,7 @@
 //! # std::fs::write(&path, b"\x84\0\0\0\x08\0\0\0\x31\0\0\0\x02\0\0\0\x01\0\0\0\x01\0\x01k\0\x01t\0\x01c\0\x20\0\x09\0\0\0\x01\
 //! #     \0\0\0\x10\0\0\0\x02\0\0\0\x04\0\0\0\x01\xff\xff\xff\xff")?;
 //! let mut file = OfStd::new(File::open(&path)?);
-//! let mut decoder = Decoder::new(Global, Limits::DEFAULT)?;
+//! let mut decoder = Decoder::new(Limits::DEFAULT)?;
 //! let mut sum = Sum(0);
 //! let outcome = run(&mut decoder, &mut file, &mut sum, u64::MAX);
 //! assert_eq!(outcome, Outcome::Finished(Finish::Whole { bytes: 58 }));
@@ -162,7 +162,7 @@
 //! Whoever has the bytes feeds each piece to the decoder, and a sink gets all events that it decides, by [`Decoder::feed`]:
 //!
 //! ```
-//! use cqlp::{Decoder, Event, Fed, Global, Limits, Sink, SinkFault};
+//! use cqlp::{Decoder, Event, Fed, Limits, Sink, SinkFault};
 //! use std::io::{Read, Write};
 //! use std::net::{TcpListener, TcpStream};
 //!
@@ -186,7 +186,7 @@
 //! drop(client);
 //!
 //! let mut server = listener.accept()?.0;
-//! let mut decoder = Decoder::new(Global, Limits::DEFAULT)?;
+//! let mut decoder = Decoder::new(Limits::DEFAULT)?;
 //! let (mut piece, mut opcodes) = ([0; 4096], Opcodes(Vec::new()));
 //! loop {
 //!     let count = server.read(&mut piece)?;
@@ -218,15 +218,15 @@
 //! use cqlp::{Kind, OfStd};
 //!
 //! fn page(cells: Vec<Value>) -> Frame {
-//!     let id = Spec { table: None, name: "id".to_string().into(), tree: TypeTree::Plain(Kind::Int) };
+//!     let id = Spec { table: None, name: "id".to_string(), tree: TypeTree::Plain(Kind::Int) };
 //!     let meta = Metadata {
 //!         flags: 1,
 //!         columns: 1,
 //!         paging: None,
-//!         table: Some(("shop".to_string().into(), "item".to_string().into())),
-//!         specs: Some(vec![id].into()),
+//!         table: Some(("shop".to_string(), "item".to_string())),
+//!         specs: Some(vec![id]),
 //!     };
-//!     let message = Message::Rows(Rows { meta, rows: 2, cells: cells.into() });
+//!     let message = Message::Rows(Rows { meta, rows: 2, cells });
 //!     Frame { flags: 0, stream: 7, tracing: None, warnings: None, payload: None, message }
 //! }
 //!
@@ -253,10 +253,10 @@
 //!
 //! ```
 //! use cqlp::session::{Client, Reply, RequestKind, Server};
-//! use cqlp::{Global, Header, Opcode};
+//! use cqlp::{Header, Opcode};
 //!
 //! let header = |response, stream, opcode| Header { response, flags: 0, stream, opcode, length: 0 };
-//! let (mut client, mut server) = (Client::new(Global, 2)?, Server::new(Global, 2)?);
+//! let (mut client, mut server) = (Client::new(2)?, Server::new(2)?);
 //!
 //! let startup = client.begin(RequestKind::Startup)?;
 //! server.accept(&header(false, startup.id, Opcode::Startup))?;
@@ -482,7 +482,6 @@ pub use cqlp_skip::{NotSkippable, Skipped, SkippingDecoder};
 pub use cqlp_sockets::{Cause, OfSocket};
 pub use cqlp_type::TypeTable;
 pub use cqlp_type_tables::{TableError, table_of, table_of_specs};
-pub use kit_std::alloc::Global;
 pub use names::{Consistency, ErrorCode, ResultKind, UnknownName, header_flag, query_flag};
 
 /// Columns of pages, in the layout of Apache Arrow.
@@ -502,13 +501,13 @@ pub mod columns {
 /// ```
 /// use cqlp::cells::{CellLimits, PageCells, PageProgress, event_size, page_head};
 /// use cqlp::frame::{Frame, Message, Metadata, Rows, Spec, TypeTree};
-/// use cqlp::{Event, Global, Kind, Scalar};
+/// use cqlp::{Event, Kind, Scalar};
 ///
-/// let spec = |name: &str, kind| Spec { table: None, name: name.to_string().into(), tree: TypeTree::Plain(kind) };
-/// let table = ("shop".to_string().into(), "item".to_string().into());
-/// let specs = vec![spec("id", Kind::Int), spec("name", Kind::Varchar)].into();
+/// let spec = |name: &str, kind| Spec { table: None, name: name.to_string(), tree: TypeTree::Plain(kind) };
+/// let table = ("shop".to_string(), "item".to_string());
+/// let specs = vec![spec("id", Kind::Int), spec("name", Kind::Varchar)];
 /// let meta = Metadata { flags: 1, columns: 2, paging: None, table: Some(table), specs: Some(specs) };
-/// let frame = Frame::plain(7, Message::Rows(Rows { meta, rows: 2, cells: vec![].into() }));
+/// let frame = Frame::plain(7, Message::Rows(Rows { meta, rows: 2, cells: vec![] }));
 ///
 /// let leaf = |row, column, scalar| Event::Leaf { row, column, level: 0, scalar };
 /// let rows = [
@@ -519,9 +518,9 @@ pub mod columns {
 /// // The header says how long the cells are, so that is known before the first of them.
 /// let len = rows.iter().flatten().map(event_size).sum::<u64>() as u32;
 /// let mut place = PageProgress::start(&frame, len)?;
-/// let mut bytes = page_head(Global, &frame, len)?.into_std();
+/// let mut bytes = page_head(&frame, len)?;
 /// for row in &rows {
-///     let mut cells = PageCells::new(Global, &frame, place, CellLimits { events: 100, bytes: 1_000 });
+///     let mut cells = PageCells::new(&frame, place, CellLimits { events: 100, bytes: 1_000 });
 ///     for event in row {
 ///         cells.take(event)?;
 ///     }
@@ -536,7 +535,7 @@ pub mod columns {
 pub mod cells {
     pub use crate::cqlp_build_cells::{CellBuilder, CellError, CellLimits, ends_cell};
     pub use crate::cqlp_compose::{
-        BeginError, BegunPage, HeadError, OpenPage, PageCellError, PageCells, PageProgress, PutCells, PutError, Unended, WrittenCells,
+        BeginPageError, BegunPage, HeadError, OpenPage, PageCellError, PageCells, PageProgress, PutCells, PutError, Unended, WrittenCells,
         event_size, page_head,
     };
 }
@@ -549,18 +548,18 @@ pub mod cells {
 #[cfg_attr(feature = "std", doc = "```")]
 #[cfg_attr(not(feature = "std"), doc = "```ignore")]
 /// use cqlp::frame::{BuildLimits, Composer, FrameBuilder, Message, encode};
-/// use cqlp::{Decoder, Event, Field, Global, Header, Limits, OfStd, Opcode, Scalar, Step};
+/// use cqlp::{Decoder, Event, Field, Header, Limits, OfStd, Opcode, Scalar, Step};
 ///
 /// let limits = BuildLimits { fields: 1_000, depth: 10, bytes: 100_000 };
-/// let mut composer = Composer::new(Global, limits);
+/// let mut composer = Composer::new(limits);
 /// composer.take(&Event::Frame(Header { response: false, flags: 0, stream: 1, opcode: Opcode::Query, length: 0 }))?;
 /// composer.take(&Event::Text { field: Field::Query, text: "SELECT now() FROM system.local" })?;
 /// composer.take(&Event::Short { field: Field::Consistency, value: 1 })?;
 /// composer.take(&Event::Byte { field: Field::QueryFlags, value: 0 })?;
-/// let bytes = composer.write(Global)?;
+/// let bytes = composer.write()?;
 ///
 /// // Under another stream id, and of another consistency.
-/// let (mut decoder, mut builder) = (Decoder::new(Global, Limits::DEFAULT)?, FrameBuilder::new(Global, limits));
+/// let (mut decoder, mut builder) = (Decoder::new(Limits::DEFAULT)?, FrameBuilder::new(limits));
 /// let (mut rest, mut sent) = (&bytes[..], OfStd::new(Vec::new()));
 /// while let Step::Event { used, event, .. } = decoder.next(rest) {
 ///     rest = &rest[used..];
@@ -624,12 +623,11 @@ pub mod session {
 /// [`pass_held`](capture::Stream::pass_held) goes on behind them.
 ///
 /// ```
-/// use cqlp::Global;
 /// use cqlp::capture::{Control, Stream, StreamSegment, StreamStep};
 ///
 /// let control = |sequence| Control { sequence, syn: false, fin: false, rst: false, missing: 0 };
 /// let first = StreamSegment { control: control(7), payload: b"ab", time: Some(1) };
-/// let mut stream = Stream::new(Global);
+/// let mut stream = Stream::new();
 /// assert_eq!(stream.take(&first, 1_000)?, StreamStep::Began { syn: false });
 /// assert_eq!(stream.take(&first, 1_000)?, StreamStep::Payload { from: 0, count: 2 });
 ///
@@ -650,7 +648,7 @@ pub mod capture {
         InterfaceHead, NewReaderError, PacketHead, SectionForm, SkipReason,
     };
     pub use crate::cqlp_tcp_reassembly::{Control, Distance, GapCause, RUN_SIZE, Stream, StreamSegment, StreamStep, distance_to};
-    pub use crate::cqlp_tcp_segment::{Address, Endpoint, Flags, LinkType, NoSegment, Segment, SegmentHead, read_segment};
+    pub use crate::cqlp_tcp_segment::{Endpoint, Flags, IpAddress, LinkType, NoSegment, Segment, SegmentHead, read_segment};
 }
 
 /// What the two sides of a connection say to each other, as somebody between them sees it: a proxy, or the reader of a capture.
@@ -663,12 +661,12 @@ pub mod capture {
 ///
 /// ```
 /// use cqlp::watch::{Paired, Watch, WatchRoom};
-/// use cqlp::{Global, Opcode};
+/// use cqlp::Opcode;
 ///
 /// let request = *b"\x04\0\0\x07\x07\0\0\0\x0d\0\0\0\x06SELECT\0\x01\0";
 /// let response = *b"\x84\0\0\x07\0\0\0\0\x09\0\0\x20\0\0\x03BAD";
 ///
-/// let mut watch = Watch::new(Global)?;
+/// let mut watch = Watch::new()?;
 /// watch.begin(false, true);
 /// watch.begin(true, true);
 /// let mut lines = Vec::new();
@@ -697,7 +695,8 @@ pub mod capture {
 /// and a [`Pairing`](watch::Pairing) pairs messages of which anything is kept. `examples/proxy` of this package is made of these.
 pub mod watch {
     pub use crate::cqlp_observer::{
-        Extent, Frame, Heads, Heard, HeardStep, Kept, LONGEST_FRONT, Message, Missed, Opening, Paired, Pairing, Watch, WatchRoom, WatchStep,
+        Extent, Heads, Heard, HeardStep, Kept, LONGEST_FRONT, Missed, Opening, Paired, Pairing, SeenFrame, SeenMessage, Watch, WatchRoom,
+        WatchStep,
     };
     pub use crate::cqlp_observer_facts::{Facts, FactsReader};
 }
@@ -712,13 +711,22 @@ pub mod text {
     };
 }
 
-/// Memory that may be refused, and what is held in it.
+/// Memory that is refused.
 ///
-/// Values own their contents in a [`Vec`](memory::Vec), a [`String`](memory::String) or a [`Box`](memory::Box) of this module, whose
-/// calls answer an error where memory is refused. Rust's own become one by `into()`, which takes no memory.
+/// What a peer sends is held in memory that is asked for by std's `try_reserve`, of Rust's global allocator, and a refusal is an `Err`. Values
+/// own their contents in std's `Vec`, `String` and `Box`. What says that it asks for memory as std does ends the program where it is refused.
 pub mod memory {
-    pub use crate::kit_std::alloc::{AllocError, AllocFailed, Allocator, Global};
-    pub use crate::kit_std::boxed::Box;
-    pub use crate::kit_std::string::String;
-    pub use crate::kit_std::vec::Vec;
+    use crate::kit_std::boxed::KitBox;
+    use alloc::boxed::Box;
+
+    pub use crate::kit_std::alloc::{AllocError, AllocFailed};
+
+    /// A value in memory of its own, as `Box::new` puts it there.
+    ///
+    /// # Errors
+    ///
+    /// Memory that is refused; the value comes back.
+    pub fn try_box<T>(item: T) -> Result<Box<T>, AllocFailed<T>> {
+        Box::kit_new(item)
+    }
 }

@@ -21,18 +21,18 @@ fn bytes_of(messages: Vec<Message>) -> Vec<u8> {
 
 fn query(text: &str, flags: u8) -> Message {
     let params = QueryParams { consistency: 1, flags, values: None, page_size: None, paging: None, serial: None, timestamp: None };
-    Message::Query { text: text.to_string().into(), params }
+    Message::Query { text: text.to_string(), params }
 }
 
 fn page(secret: &str) -> Message {
-    let spec = |name: &str, kind| Spec { table: None, name: name.to_string().into(), tree: TypeTree::Plain(kind) };
-    let specs = vec![spec("id", Kind::Int), spec("secret", Kind::Varchar), spec("note", Kind::Varchar)].into();
-    let table = Some(("ks".to_string().into(), "t".to_string().into()));
+    let spec = |name: &str, kind| Spec { table: None, name: name.to_string(), tree: TypeTree::Plain(kind) };
+    let specs = vec![spec("id", Kind::Int), spec("secret", Kind::Varchar), spec("note", Kind::Varchar)];
+    let table = Some(("ks".to_string(), "t".to_string()));
     let meta = Metadata { flags: 1, columns: 3, paging: None, table, specs: Some(specs) };
-    let text = |text: &str| Value::scalar(Atom::Varchar(text.to_string().into()));
+    let text = |text: &str| Value::scalar(Atom::Varchar(text.to_string()));
     let row = || [Value::Leaf(Atom::Int(7)), text(secret), text("seen")];
     let cells: Vec<Value> = row().into_iter().chain([Value::Null, Value::Null, text("seen")]).chain(row()).collect();
-    Message::Rows(Rows { meta, rows: 3, cells: cells.into() })
+    Message::Rows(Rows { meta, rows: 3, cells })
 }
 
 /// In whatever pieces a page comes, the texts of the column are stars, and nothing else is.
@@ -54,7 +54,7 @@ fn metadata_is_asked_for() {
     Redactor::new("secret").unwrap().alter(&mut asked).unwrap();
     assert_eq!(asked, bytes_of(vec![query("SELECT", 0)]));
     let meta = Metadata { flags: 4, columns: 1, paging: None, table: None, specs: None };
-    let raw = vec![Value::Leaf(Atom::Raw(b"swordfish".to_vec().into()))].into();
+    let raw = vec![Value::Leaf(Atom::Raw(b"swordfish".to_vec()))];
     let mut bare = bytes_of(vec![Message::Rows(Rows { meta, rows: 1, cells: raw })]);
     assert!(Redactor::new("secret").unwrap().alter(&mut bare).is_err());
 }
@@ -63,12 +63,12 @@ fn metadata_is_asked_for() {
 #[test]
 fn a_keyspace_is_renamed() {
     let batch = |text: &str| {
-        let entries = vec![BatchEntry::Text(text.to_string().into(), vec![].into())].into();
+        let entries = vec![BatchEntry::Text(text.to_string(), vec![])];
         Message::Batch { kind: 0, entries, consistency: 1, flags: 0, serial: None, timestamp: None }
     };
     let all = |name: &str| {
         let text = format!("SELECT * FROM {name}.t WHERE k = 'shop'");
-        vec![Message::Options, query(&text, 0), Message::Prepare(text.clone().into()), batch(&text), query("USE other", 0)]
+        vec![Message::Options, query(&text, 0), Message::Prepare(text.clone()), batch(&text), query("USE other", 0)]
     };
     let mut came = bytes_of(all("shop"));
     let mut wanted = bytes_of(all("store2"));

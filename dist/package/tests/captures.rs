@@ -8,7 +8,6 @@
 mod example;
 
 use crate::common::{Numbers, count};
-use cqlp::Global;
 use cqlp::capture::{
     CaptureEnd, CaptureEvent, CaptureLimits, CaptureReader, CaptureStep, Control, Distance, Endpoint, GapCause, LinkType, PacketHead,
     Segment, Stream, StreamSegment, StreamStep, distance_to, read_segment,
@@ -189,7 +188,7 @@ struct Direction {
 
 impl Direction {
     fn new(room: usize) -> Direction {
-        Direction { stream: Stream::new(Global), room, reference: Reference::default() }
+        Direction { stream: Stream::new(), room, reference: Reference::default() }
     }
 
     fn take(&mut self, segment: &StreamSegment<'_>, said: &mut Vec<u8>) {
@@ -298,7 +297,7 @@ impl Report {
 }
 
 fn said<'a>(limits: CaptureLimits, room: usize, pieces: impl IntoIterator<Item = &'a [u8]>) -> Vec<u8> {
-    let mut reader = CaptureReader::new(Global, limits).unwrap();
+    let mut reader = CaptureReader::new(limits).unwrap();
     let mut report = Report { room, packet: None, directions: HashMap::new(), said: Vec::new() };
     for piece in pieces {
         if !report.take(&mut reader, piece) {
@@ -312,7 +311,7 @@ fn said<'a>(limits: CaptureLimits, room: usize, pieces: impl IntoIterator<Item =
 
 /// The packets of a capture, each with the header of its record, and the file's header.
 fn records(capture: &[u8]) -> (Vec<u8>, Vec<Vec<u8>>) {
-    let (mut starts, mut reader) = (Vec::new(), CaptureReader::new(Global, CaptureLimits::DEFAULT).unwrap());
+    let (mut starts, mut reader) = (Vec::new(), CaptureReader::new(CaptureLimits::DEFAULT).unwrap());
     let mut used = 0;
     while let CaptureStep::Event { at, used: taken, event } = reader.next(&capture[used..]) {
         if let CaptureEvent::Packet(_) = event {

@@ -3,7 +3,7 @@
 
 use cqlp::capture::{CaptureReason, CaptureRefusal, NoSegment};
 use cqlp::session::{ClientOf, RequestKind};
-use cqlp::{Decoder, Global, Header, Kind, Limits, Opcode, Reason, Scalar, Step, table_of};
+use cqlp::{Decoder, Header, Kind, Limits, Opcode, Reason, Scalar, Step, table_of};
 
 #[test]
 fn headers() {
@@ -39,7 +39,7 @@ fn errors() {
         Ok(Header::from_bytes(&[5; 9])?)
     }
     assert_eq!(refused().unwrap_err().to_string(), "BadVersion at byte 0");
-    let mut client = ClientOf::new(Global, 1).unwrap();
+    let mut client = ClientOf::new(1).unwrap();
     let refused = client.begin(RequestKind::Query, "carried").unwrap_err();
     assert_eq!(refused.carried, "carried");
     assert_eq!(refused.to_string(), refused.why.to_string());
@@ -52,8 +52,8 @@ fn errors() {
 }
 
 fn table_for_an_ended_stream() -> Result<(), Box<dyn std::error::Error>> {
-    let mut decoder = Decoder::new(Global, Limits::DEFAULT)?;
+    let mut decoder = Decoder::new(Limits::DEFAULT)?;
     assert!(matches!(decoder.next(&[5; 9]), Step::Refused(_)));
-    decoder.give(table_of(Global, &[])?)?;
+    decoder.give(table_of(&[])?)?;
     Ok(())
 }

@@ -10,13 +10,10 @@ use cqlp::capture::{CaptureLimits, CaptureReader, CaptureStep, Control, Stream, 
 use cqlp::cells::{CellBuilder, CellLimits};
 use cqlp::columns::{BatchLimits, Columns, PageColumns};
 use cqlp::frame::{BuildLimits, Composer, Frame, FrameBuilder, append, encode};
-use cqlp::memory::Vec as Bytes;
 use cqlp::session::{Client, ClientOf, RequestKind, Server, ServerOf};
 use cqlp::text::{render_events, render_rows};
 use cqlp::watch::{Watch, WatchRoom, WatchStep};
-use cqlp::{
-    Decoder, Event, Fed, Global, Header, IoFault, Kind, Limits, Opcode, Sink, SinkFault, SkippingDecoder, Source, Step, Target, run,
-};
+use cqlp::{Decoder, Event, Fed, Header, IoFault, Kind, Limits, Opcode, Sink, SinkFault, SkippingDecoder, Source, Step, Target, run};
 
 /// What a thread asked for: how often, how many bytes in all, and how many are held.
 #[derive(Clone, Copy, Debug, PartialEq, Eq)]
@@ -150,7 +147,7 @@ type Read = fn(&Limits, &[u8], usize);
 
 /// Event by event, and once more after it has begun anew.
 fn pulled(limits: &Limits, stream: &[u8], size: usize) {
-    let mut decoder = Decoder::new(Global, *limits).unwrap();
+    let mut decoder = Decoder::new(*limits).unwrap();
     for _ in 0..2 {
         for piece in stream.chunks(size) {
             let mut used = 0;
@@ -163,26 +160,26 @@ fn pulled(limits: &Limits, stream: &[u8], size: usize) {
 }
 
 fn fed(limits: &Limits, stream: &[u8], size: usize) {
-    let mut decoder = Decoder::new(Global, *limits).unwrap();
+    let mut decoder = Decoder::new(*limits).unwrap();
     for piece in stream.chunks(size) {
         decoder.feed(piece, &mut Nowhere);
     }
 }
 
 fn lenient(limits: &Limits, stream: &[u8], size: usize) {
-    let mut decoder = Decoder::lenient(Global, *limits).unwrap();
+    let mut decoder = Decoder::lenient(*limits).unwrap();
     run(&mut decoder, &mut Pieces { rest: stream, size }, &mut Nowhere, u64::MAX);
 }
 
 fn rendered(limits: &Limits, stream: &[u8], size: usize) {
-    let mut decoder = Decoder::new(Global, *limits).unwrap();
+    let mut decoder = Decoder::new(*limits).unwrap();
     render_events(&mut decoder, &mut Pieces { rest: stream, size }, Nowhere, u64::MAX);
     decoder.restart();
     render_rows(&mut decoder, &mut Pieces { rest: stream, size }, Nowhere, u64::MAX);
 }
 
 fn skipped(limits: &Limits, stream: &[u8], size: usize) {
-    let mut decoder = SkippingDecoder::new(Global, *limits).unwrap();
+    let mut decoder = SkippingDecoder::new(*limits).unwrap();
     for piece in stream.chunks(size) {
         let mut rest = piece;
         while let (Fed::Refused { used, .. }, _) = decoder.feed(rest, Nowhere) {
@@ -227,7 +224,7 @@ fn given_tables() {
     for used in 0..=page().len() {
         let made = asked_amply(|| {
             let (metadata, page) = (metadata(), page());
-            let mut decoder = Decoder::new(Global, SMALL).unwrap();
+            let mut decoder = Decoder::new(SMALL).unwrap();
             run(&mut decoder, &mut Pieces { rest: &metadata, size: 100 }, &mut Nowhere, u64::MAX);
             let table = decoder.table().clone_table().unwrap();
             assert!(decoder.give(table).is_ok());
@@ -246,12 +243,12 @@ fn in_proportion(stream: &[u8]) -> u64 {
 
 /// Hands the events of a stream to a function until it has no more use for them.
 fn told(stream: &[u8], take: impl FnMut(&Event<'_>) -> Result<(), SinkFault>) {
-    let mut decoder = Decoder::new(Global, SMALL).unwrap();
+    let mut decoder = Decoder::new(SMALL).unwrap();
     run(&mut decoder, &mut Pieces { rest: stream, size: 1 << 20 }, &mut Each(take), u64::MAX);
 }
 
 fn built(stream: &[u8]) -> Vec<Frame> {
-    let (mut builder, mut frames) = (FrameBuilder::new(Global, BUILD), Vec::new());
+    let (mut builder, mut frames) = (FrameBuilder::new(BUILD), Vec::new());
     told(stream, |event| {
         frames.extend(builder.take(event).map_err(|_| SinkFault)?.map(|built| built.frame));
         Ok(())
@@ -260,7 +257,7 @@ fn built(stream: &[u8]) -> Vec<Frame> {
 }
 
 fn built_in_turn(stream: &[u8]) {
-    let mut builder = FrameBuilder::new(Global, BUILD);
+    let mut builder = FrameBuilder::new(BUILD);
     told(stream, |event| match builder.take(event) {
         Ok(_) => Ok(()),
         Err(_) => Err(SinkFault),
@@ -268,19 +265,19 @@ fn built_in_turn(stream: &[u8]) {
 }
 
 fn composed(stream: &[u8]) {
-    let mut composer = Composer::new(Global, BUILD);
+    let mut composer = Composer::new(BUILD);
     told(stream, |event| {
         composer.take(event).map_err(|_| SinkFault)?;
         if let Event::End { .. } = event {
-            let whole = std::mem::replace(&mut composer, Composer::new(Global, BUILD));
-            drop(whole.write(Global));
+            let whole = std::mem::replace(&mut composer, Composer::new(BUILD));
+            drop(whole.write());
         }
         Ok(())
     });
 }
 
 fn cells(stream: &[u8]) {
-    let mut builder = CellBuilder::new(Global, CellLimits { events: 1_000, bytes: 1 << 20 });
+    let mut builder = CellBuilder::new(CellLimits { events: 1_000, bytes: 1 << 20 });
     told(stream, |event| {
         let _ = builder.take(event);
         Ok(())
@@ -311,7 +308,7 @@ fn written_frames() {
     for stream in all_streams() {
         for frame in built(&stream) {
             assert_eq!(asked_amply(|| assert!(encode(&frame, &mut Nowhere).is_ok())), NOTHING, "{stream:x?}");
-            let (mut bytes, mut len) = (Bytes::new(Global), 0);
+            let (mut bytes, mut len) = (Vec::new(), 0);
             let made = asked_amply(|| len = append(&frame, &mut bytes).unwrap_or(0) as u64);
             assert!(made.held as u64 <= 1_024 + 2 * len && made.bytes <= 2_048 + 4 * len, "{made:?} {stream:x?}");
             assert_eq!(made.held, bytes.capacity() as i64);
@@ -330,7 +327,7 @@ fn header(response: bool, stream: i16, opcode: Opcode) -> Header {
 
 /// A client of which three requests are open, one of them given up, and one was answered.
 fn client() -> ClientOf<Box<[u8]>> {
-    let mut client = ClientOf::new(Global, 100).unwrap();
+    let mut client = ClientOf::new(100).unwrap();
     let tickets = [(); 4].map(|()| client.begin(RequestKind::Options, carried()).ok().unwrap());
     assert!(client.cancel(tickets[0]));
     drop(client.reply(&header(true, 1, Opcode::Supported)));
@@ -339,7 +336,7 @@ fn client() -> ClientOf<Box<[u8]>> {
 }
 
 fn server() -> ServerOf<Box<[u8]>> {
-    let mut server = ServerOf::new(Global, 100).unwrap();
+    let mut server = ServerOf::new(100).unwrap();
     for stream in 0..4 {
         drop(server.accept(&header(false, stream, Opcode::Options), carried()));
         drop(server.accept(&header(false, stream, Opcode::Options), carried()));
@@ -358,8 +355,8 @@ fn cores() {
         || drop(server()),
         || drop(server().into_values()),
         || drop(server().into_values().nth(1)),
-        || drop(Client::new(Global, 32_768)),
-        || drop(Server::new(Global, 32_768)),
+        || drop(Client::new(32_768)),
+        || drop(Server::new(32_768)),
     ];
     for (at, way) in ways.iter().enumerate() {
         let made = asked_amply(way);
@@ -373,7 +370,7 @@ fn cores() {
 fn observers() {
     for stream in all_streams() {
         let whole = asked_amply(|| {
-            let mut watch = Watch::new(Global).unwrap();
+            let mut watch = Watch::new().unwrap();
             for responses in [false, true, false] {
                 watch.begin(responses, true);
                 let mut rest = &stream[..];
@@ -396,7 +393,7 @@ fn observers() {
 fn streams_of_captures() {
     for room in [0, 130, 4_096] {
         let made = asked_amply(|| {
-            let mut stream = Stream::new(Global);
+            let mut stream = Stream::new();
             for sequence in [9_u32, 10, 15, 10 + room as u32, 1 << 30, 1 << 31, (1 << 31) + 9, 3 << 30, u32::MAX] {
                 let control = Control { sequence, syn: sequence == 9, fin: false, rst: false, missing: 2 };
                 let segment = StreamSegment { control, payload: b"abc", time: None };
@@ -425,7 +422,7 @@ fn captures() {
         let file = [bytes_of(head), bytes_of(packet)].concat();
         let mut made = NOTHING;
         let whole = asked_amply(|| {
-            let mut reader = CaptureReader::new(Global, CaptureLimits::DEFAULT).unwrap();
+            let mut reader = CaptureReader::new(CaptureLimits::DEFAULT).unwrap();
             made = asked_so_far();
             for piece in file.chunks(5) {
                 let mut used = 0;
@@ -445,8 +442,8 @@ fn columns() {
     for stream in all_streams() {
         let mut made = NOTHING;
         let whole = asked_amply(|| {
-            let columns = Columns::new(Global, limits, &[Kind::Int, Kind::Varchar]).unwrap();
-            let mut decoder = Decoder::new(Global, SMALL).unwrap();
+            let columns = Columns::new(limits, &[Kind::Int, Kind::Varchar]).unwrap();
+            let mut decoder = Decoder::new(SMALL).unwrap();
             made = asked_so_far();
             let mut reader = PageColumns::new(columns, Nowhere);
             for piece in stream.chunks(50) {

@@ -3,7 +3,7 @@
 
 use crate::digits::bytes_of;
 use Said::{Got, More, Refused};
-use cqlp::{Address, BoundValue, Decoder, Event, Field, Global, Kind, Limits, Reason, Refusal, Scalar, Step};
+use cqlp::{Address, BoundValue, Decoder, Event, Field, Kind, Limits, Reason, Refusal, Scalar, Step};
 
 const LIMITS: Limits = Limits { text: 40, cell: 40, entries: 8, depth: 3, types: true, parts: false };
 
@@ -43,7 +43,7 @@ type Call<'a> = (&'a str, Said, u32);
 fn check(place: Place, room: u32, calls: &[Call<'_>]) {
     let (header, before) = (bytes_of(place.0), bytes_of(place.1));
     let stream = [&header[..], &(before.len() as u32 + room).to_be_bytes(), &before].concat();
-    let (mut decoder, mut rest) = (Decoder::new(Global, LIMITS).unwrap(), &stream[..]);
+    let (mut decoder, mut rest) = (Decoder::new(LIMITS).unwrap(), &stream[..]);
     while let Step::Event { used, .. } = decoder.next(rest) {
         rest = &rest[used..];
     }

@@ -6,7 +6,7 @@
 use crate::common::cores::{Caller, Responder};
 use crate::common::{Numbers, count, limits, mutated, said, streams};
 use cqlp::text::{Ending, ending_line, render_events, render_rows};
-use cqlp::{Decoder, Event, Global, Header, Limits, OfStd, Outcome, Sink, SinkFault, run};
+use cqlp::{Decoder, Event, Header, Limits, OfStd, Outcome, Sink, SinkFault, run};
 
 /// Pieces of a stream, each of at most this many bytes.
 fn pieces<'a>(numbers: &mut Numbers, mut rest: &'a [u8], most: usize) -> Vec<&'a [u8]> {
@@ -34,7 +34,7 @@ impl Sink for Headers {
 
 /// What `run` has written of a stream, and its verdict; and the headers in it.
 fn rendered(limits: Limits, stream: &[u8]) -> (String, Vec<Header>) {
-    let decoder = || Decoder::new(Global, limits).unwrap();
+    let decoder = || Decoder::new(limits).unwrap();
     let (outcome, mut lines) = render_events(&mut decoder(), &mut OfStd::new(stream), OfStd::new(Vec::new()), u64::MAX);
     let Outcome::Finished(finish) = outcome else { panic!("{outcome:?}") };
     ending_line(Ending::Finished(finish), &mut lines).unwrap();

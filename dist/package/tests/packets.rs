@@ -5,7 +5,6 @@
 //! `small` with little room for bytes that come early.
 #![forbid(unsafe_code)]
 
-use cqlp::Global;
 use cqlp::capture::{
     CaptureEnd, CaptureEvent, CaptureLimits, CaptureReader, CaptureStep, Control, Endpoint, GapCause, LinkType, NoSegment, PacketHead,
     SectionForm, Segment, Stream, StreamSegment, StreamStep, read_segment,
@@ -82,7 +81,7 @@ fn streams_of_segments() {
 
 /// A line for each event, with its offset, and how the file ends, where it comes in pieces of this size.
 fn said_in_pieces(limits: CaptureLimits, file: &[u8], size: usize) -> Result<String, fmt::Error> {
-    let mut reader = CaptureReader::new(Global, limits).unwrap();
+    let mut reader = CaptureReader::new(limits).unwrap();
     let mut said = String::new();
     let mut under_way = None;
     for piece in file.chunks(size.max(1)) {
@@ -193,7 +192,7 @@ fn said_of_streams(file: &[u8], room: usize) -> Result<String, fmt::Error> {
 
 /// The packets of a capture up to its end, or to where it is refused.
 fn packets_of(file: &[u8]) -> Vec<(PacketHead, Vec<u8>)> {
-    let mut reader = CaptureReader::new(Global, CaptureLimits::DEFAULT).unwrap();
+    let mut reader = CaptureReader::new(CaptureLimits::DEFAULT).unwrap();
     let mut packets: Vec<(PacketHead, Vec<u8>)> = Vec::new();
     let mut rest = file;
     while let CaptureStep::Event { used, event, .. } = reader.next(rest) {
@@ -209,7 +208,7 @@ fn packets_of(file: &[u8]) -> Vec<(PacketHead, Vec<u8>)> {
 
 impl Direction {
     fn new(source: Endpoint, destination: Endpoint, room: usize) -> Direction {
-        let stream = Stream::new(Global);
+        let stream = Stream::new();
         Direction { source, destination, stream, room, position: 0, gap: None, bytes: 0, sum: 0, said: String::new() }
     }
 

@@ -5,7 +5,7 @@
 use crate::common::{Numbers, count};
 use cqlp::frame::{Frame, Message, Metadata, Rows, Spec, TypeTree, encode};
 use cqlp::rows::{FromCell, FromRow, LentCell, Mismatch, PageReader, RowError};
-use cqlp::{Decoder, Event, Global, Kind, Limits, OfStd, Refusal, Step};
+use cqlp::{Decoder, Event, Kind, Limits, OfStd, Refusal, Step};
 
 /// Lengths that a content of a kind may have, and what a byte of it may be.
 const KINDS: [(Kind, &[usize]); 21] = [
@@ -88,9 +88,9 @@ type Outcome = (Vec<Vec<String>>, Option<Refusal>);
 
 /// What a decoder says of the cells of a page, by its events.
 fn by_events(limits: Limits, given: Option<&[Spec]>, page: &[u8]) -> Option<Outcome> {
-    let mut decoder = Decoder::new(Global, limits).unwrap();
+    let mut decoder = Decoder::new(limits).unwrap();
     if let Some(given) = given {
-        decoder.give(cqlp::table_of_specs(Global, given).unwrap()).unwrap();
+        decoder.give(cqlp::table_of_specs(given).unwrap()).unwrap();
     }
     let (mut used, mut rows, mut row, mut columns, mut is_page) = (0, Vec::new(), Vec::new(), 0, false);
     loop {
@@ -131,17 +131,17 @@ fn by_rows<'a, T: FromRow<'a>>(reader: &mut PageReader, page: &'a [u8], words: i
 }
 
 fn specs(kinds: &[Kind]) -> Vec<Spec> {
-    let tree = |kind| if kind == Kind::Custom { TypeTree::Custom("c".to_string().into()) } else { TypeTree::Plain(kind) };
-    kinds.iter().enumerate().map(|(place, kind)| Spec { table: None, name: format!("column{place}").into(), tree: tree(*kind) }).collect()
+    let tree = |kind| if kind == Kind::Custom { TypeTree::Custom("c".to_string()) } else { TypeTree::Plain(kind) };
+    kinds.iter().enumerate().map(|(place, kind)| Spec { table: None, name: format!("column{place}"), tree: tree(*kind) }).collect()
 }
 
 /// A page of these columns, or of as many without metadata: so many rows, and their cells.
 fn page(specs: Vec<Spec>, bare: bool, rows: u32, cells: &[u8]) -> Vec<u8> {
     let columns = specs.len() as u32;
-    let table = (!bare).then(|| ("shop".to_string().into(), "user".to_string().into()));
-    let meta = Metadata { flags: if bare { 4 } else { 1 }, columns, paging: None, table, specs: (!bare).then(|| specs.into()) };
+    let table = (!bare).then(|| ("shop".to_string(), "user".to_string()));
+    let meta = Metadata { flags: if bare { 4 } else { 1 }, columns, paging: None, table, specs: (!bare).then_some(specs) };
     let mut target = OfStd::new(Vec::new());
-    encode(&Frame::plain(7, Message::Rows(Rows { meta, rows: 0, cells: Vec::new().into() })), &mut target).unwrap();
+    encode(&Frame::plain(7, Message::Rows(Rows { meta, rows: 0, cells: Vec::new() })), &mut target).unwrap();
     let mut page = target.into_inner();
     page.truncate(page.len() - 4);
     page.extend(rows.to_be_bytes());

@@ -3,7 +3,7 @@
 
 use crate::common::Numbers;
 use cqlp::session::{BeginError, Client, Reply, RequestKind, Ticket};
-use cqlp::{Global, Header, Opcode};
+use cqlp::{Header, Opcode};
 
 const SLOTS: u16 = 32_768;
 
@@ -13,7 +13,7 @@ fn response(stream: i16, opcode: Opcode) -> Header {
 
 /// A client that is set up, with nothing open, and a slot for each stream id.
 fn ready() -> Client {
-    let mut client = Client::new(Global, SLOTS).unwrap();
+    let mut client = Client::new(SLOTS).unwrap();
     let startup = client.begin(RequestKind::Startup).unwrap();
     client.reply(&response(startup.id, Opcode::Ready)).unwrap();
     client

@@ -3,9 +3,8 @@
 
 use cqlp::cells::CellLimits;
 use cqlp::frame::{Atom, Frame, Message, Metadata, Rows, Spec, TypeTree, Value, encode};
-use cqlp::memory::Box as CqlBox;
 use cqlp::rows::*;
-use cqlp::{Decoder, Global, Kind, Limits, OfStd, SinkFault, TableError, bind, row, table_of_specs};
+use cqlp::{Decoder, Kind, Limits, OfStd, SinkFault, TableError, bind, row, table_of_specs};
 use std::collections::{BTreeMap, BTreeSet, HashMap, HashSet};
 use std::fmt::Debug;
 use std::net::IpAddr;
@@ -23,8 +22,8 @@ fn plain(kind: Kind) -> TypeTree {
     TypeTree::Plain(kind)
 }
 
-fn boxed(tree: TypeTree) -> CqlBox<TypeTree> {
-    CqlBox::new(Global, tree).unwrap()
+fn boxed(tree: TypeTree) -> Box<TypeTree> {
+    Box::new(tree)
 }
 
 fn list(inner: TypeTree) -> TypeTree {
@@ -40,16 +39,16 @@ fn map(key: TypeTree, value: TypeTree) -> TypeTree {
 }
 
 fn tuple(types: Vec<TypeTree>) -> TypeTree {
-    TypeTree::Tuple(types.into())
+    TypeTree::Tuple(types)
 }
 
 fn udt(types: Vec<TypeTree>) -> TypeTree {
-    let fields: Vec<_> = types.into_iter().map(|tree| ("f".to_string().into(), tree)).collect();
-    TypeTree::Udt { keyspace: "k".to_string().into(), name: "t".to_string().into(), fields: fields.into() }
+    let fields: Vec<_> = types.into_iter().map(|tree| ("f".to_string(), tree)).collect();
+    TypeTree::Udt { keyspace: "k".to_string(), name: "t".to_string(), fields }
 }
 
 fn spec(name: &str, tree: TypeTree) -> Spec {
-    Spec { table: None, name: name.to_string().into(), tree }
+    Spec { table: None, name: name.to_string(), tree }
 }
 
 fn written(message: Message) -> Vec<u8> {
@@ -61,30 +60,30 @@ fn written(message: Message) -> Vec<u8> {
 /// A page with these columns and cells.
 fn page(specs: Vec<Spec>, cells: Vec<Value>) -> Vec<u8> {
     let (columns, rows) = (specs.len() as u32, (cells.len() / specs.len()) as u32);
-    let table = Some(("k".to_string().into(), "t".to_string().into()));
-    let meta = Metadata { flags: ONE_TABLE, columns, paging: None, table, specs: Some(specs.into()) };
-    written(Message::Rows(Rows { meta, rows, cells: cells.into() }))
+    let table = Some(("k".to_string(), "t".to_string()));
+    let meta = Metadata { flags: ONE_TABLE, columns, paging: None, table, specs: Some(specs) };
+    written(Message::Rows(Rows { meta, rows, cells }))
 }
 
 /// The same page without its metadata.
 fn bare_page(specs: &[Spec], cells: &[Value]) -> Vec<u8> {
     let meta = Metadata { flags: NO_METADATA, columns: specs.len() as u32, paging: None, table: None, specs: None };
-    let raw = |(i, cell): (usize, &Value)| cqlp::frame::raw_value(Global, cell, Some(&specs[i % specs.len()].tree)).unwrap();
+    let raw = |(i, cell): (usize, &Value)| cqlp::frame::raw_value(cell, Some(&specs[i % specs.len()].tree)).unwrap();
     let cells: Vec<_> = cells.iter().enumerate().map(raw).collect();
-    written(Message::Rows(Rows { meta, rows: (cells.len() / specs.len()) as u32, cells: cells.into() }))
+    written(Message::Rows(Rows { meta, rows: (cells.len() / specs.len()) as u32, cells }))
 }
 
 /// The rows of a frame in pieces of this many bytes; its columns are given where it does not have them.
 fn in_pieces<T: for<'a> FromRow<'a>>(frame: &[u8], size: usize, given: Option<&[Spec]>) -> Result<Vec<T>, RowError> {
     let mut rows = Vec::new();
-    let mut decoder = Decoder::new(Global, Limits::DEFAULT).unwrap();
+    let mut decoder = Decoder::new(Limits::DEFAULT).unwrap();
     let mut sink = RowSink::with_limits(ALL, |row| {
         rows.push(row);
         Ok(())
     });
     if let Some(specs) = given {
         sink.name_columns(specs)?;
-        decoder.give(table_of_specs(Global, specs).unwrap()).unwrap();
+        decoder.give(table_of_specs(specs).unwrap()).unwrap();
     }
     frame.chunks(size).try_for_each(|piece| sink.feed(&mut decoder, piece))?;
     assert!(sink.head().ended);
@@ -119,7 +118,7 @@ fn same<T: for<'a> FromRow<'a> + PartialEq + Debug>(specs: Vec<Spec>, cells: Vec
 /// These rows, written as cells of these types, are read again.
 fn there_and_back<T: ToCell + for<'a> FromRow<'a> + PartialEq + Debug>(types: fn() -> Vec<TypeTree>, rows: &[T]) {
     let cells = |row: &T| match row.to_cell(&tuple(types())).unwrap() {
-        Value::Tuple(cells) => cells.into_std(),
+        Value::Tuple(cells) => cells,
         other => panic!("{other:?}"),
     };
     let names = types().into_iter().enumerate().map(|(i, tree)| spec(&format!("c{i}"), tree)).collect();
@@ -145,7 +144,7 @@ fn numbers_there_and_back() {
 fn texts_and_bytes_there_and_back() {
     let types = || {
         let kinds = [Kind::Ascii, Kind::Varchar, Kind::Blob, Kind::Blob, Kind::Uuid, Kind::Uuid, Kind::Timeuuid, Kind::Timeuuid];
-        let custom = TypeTree::Custom("x.Y".to_string().into());
+        let custom = TypeTree::Custom("x.Y".to_string());
         kinds.into_iter().chain([Kind::Varint, Kind::Decimal, Kind::Int]).map(plain).chain([custom]).collect()
     };
     let (uuid, time) = (*b"0123456\x17abcdefgh", *b"012345\x17\x17abcdefgh");
@@ -197,11 +196,11 @@ fn collections_there_and_back() {
 #[test]
 fn values_there_and_back() {
     let leaf = |number| Value::Leaf(Atom::Int(number));
-    let decimal = || Value::Leaf(Atom::Decimal { scale: 1, unscaled: vec![5].into() });
-    let rows = || vec![(Value::List(vec![leaf(1), Value::Null, Value::Empty].into()), decimal()), (Value::Null, Value::Empty)];
+    let decimal = || Value::Leaf(Atom::Decimal { scale: 1, unscaled: vec![5] });
+    let rows = || vec![(Value::List(vec![leaf(1), Value::Null, Value::Empty]), decimal()), (Value::Null, Value::Empty)];
     let types = || vec![spec("a", list(plain(Kind::Int))), spec("b", plain(Kind::Decimal))];
     same(types(), rows().into_iter().flat_map(|(a, b)| [a, b]).collect(), &rows());
-    let maps = || vec![(Value::Map(vec![(leaf(1), Value::Tuple(vec![leaf(2)].into()))].into()), Value::Udt(vec![leaf(3)].into()))];
+    let maps = || vec![(Value::Map(vec![(leaf(1), Value::Tuple(vec![leaf(2)]))]), Value::Udt(vec![leaf(3)]))];
     let (tuples, udts) = (tuple(vec![plain(Kind::Int), plain(Kind::Int)]), udt(vec![plain(Kind::Int)]));
     same(vec![spec("m", map(plain(Kind::Int), tuples)), spec("u", udts)], maps().into_iter().flat_map(|(a, b)| [a, b]).collect(), &maps());
 }
@@ -234,17 +233,17 @@ fn user_specs() -> Vec<Spec> {
 }
 
 fn varchar(text: &str) -> Value {
-    Value::Leaf(Atom::Varchar(text.to_string().into()))
+    Value::Leaf(Atom::Varchar(text.to_string()))
 }
 
 /// Cells of 150 users, a few more than are made at a time.
 fn user_cells() -> (Vec<Value>, Vec<User>) {
     let user = |id| User { id, name: format!("user {id}"), years: (id % 3 != 0).then_some(id) };
     let users: Vec<_> = (0..150).map(user).collect();
-    let tags = || Value::Set(vec![varchar("x"), Value::Empty].into());
+    let tags = || Value::Set(vec![varchar("x"), Value::Empty]);
     let cells = |user: &User| {
         let years = user.years.map_or(Value::Null, Value::from);
-        [years, tags(), varchar(&user.name), Value::Leaf(Atom::Blob(vec![7, user.id as u8].into())), Value::from(user.id)]
+        [years, tags(), varchar(&user.name), Value::Leaf(Atom::Blob(vec![7, user.id as u8])), Value::from(user.id)]
     };
     (users.iter().flat_map(cells).collect(), users)
 }
@@ -288,13 +287,11 @@ fn text<T: for<'a> FromRow<'a> + Debug>(frame: &[u8]) -> String {
 #[test]
 fn each_error_has_its_text() {
     let ints = int_page(vec![Value::from(1), Value::from(2), Value::Null, Value::Empty]);
-    let lists = page(vec![spec("l", list(plain(Kind::Int)))], vec![Value::List(vec![Value::from(1), Value::Null].into())]);
-    let blobs = page(vec![spec("b", plain(Kind::Blob))], vec![Value::Leaf(Atom::Blob(vec![1, 2].into()))]);
-    let tuples = page(
-        vec![spec("t", tuple(vec![plain(Kind::Int), plain(Kind::Int)]))],
-        vec![Value::Tuple(vec![Value::from(1), Value::from(2)].into())],
-    );
-    let long = page(vec![spec("l", list(plain(Kind::Int)))], vec![Value::List((0..2_000).map(Value::from).collect::<Vec<_>>().into())]);
+    let lists = page(vec![spec("l", list(plain(Kind::Int)))], vec![Value::List(vec![Value::from(1), Value::Null])]);
+    let blobs = page(vec![spec("b", plain(Kind::Blob))], vec![Value::Leaf(Atom::Blob(vec![1, 2]))]);
+    let tuples =
+        page(vec![spec("t", tuple(vec![plain(Kind::Int), plain(Kind::Int)]))], vec![Value::Tuple(vec![Value::from(1), Value::from(2)])]);
+    let long = page(vec![spec("l", list(plain(Kind::Int)))], vec![Value::List((0..2_000).map(Value::from).collect::<Vec<_>>())]);
     let bare = bare_page(&[spec("c", plain(Kind::Int))], &[Value::from(1)]);
     row! {
         #[derive(Debug)]
@@ -349,7 +346,7 @@ fn columns_are_passed_over() {
         #[derive(Debug, PartialEq)]
         struct Id { id: i32 }
     }
-    let cells = vec![Value::List((0..2_000).map(Value::from).collect::<Vec<_>>().into()), Value::from(7)];
+    let cells = vec![Value::List((0..2_000).map(Value::from).collect::<Vec<_>>()), Value::from(7)];
     let frame = page(vec![spec("l", list(plain(Kind::Int))), spec("id", plain(Kind::Int))], cells);
     for size in [1, 7, 4096] {
         assert_eq!(in_pieces::<Id>(&frame, size, None), Ok(vec![Id { id: 7 }]));
@@ -367,14 +364,14 @@ fn rows_before_an_error() {
         taken += 1;
         if taken < 2 { Ok(()) } else { Err(SinkFault) }
     });
-    let mut decoder = Decoder::new(Global, Limits::DEFAULT).unwrap();
+    let mut decoder = Decoder::new(Limits::DEFAULT).unwrap();
     assert_eq!(sink.feed(&mut decoder, &ints), Err(RowError::Stopped));
     assert_eq!(taken, 2);
 }
 
 #[test]
 fn contents_in_parts_are_refused() {
-    let frame = page(vec![spec("b", plain(Kind::Blob))], vec![Value::Leaf(Atom::Blob(vec![7; 2_000].into()))]);
+    let frame = page(vec![spec("b", plain(Kind::Blob))], vec![Value::Leaf(Atom::Blob(vec![7; 2_000]))]);
     let mut reader = PageReader::new(Limits { parts: true, cell: 1_000, ..Limits::DEFAULT }).unwrap().with_cell_limits(ALL);
     let error = reader.rows::<(Vec<u8>,)>(&frame).unwrap().next().unwrap().unwrap_err();
     assert_eq!(error, RowError::InParts { row: 0, column: 0 });
@@ -383,15 +380,9 @@ fn contents_in_parts_are_refused() {
 
 #[test]
 fn what_a_page_says_beside_its_cells() {
-    let table = Some(("k".to_string().into(), "t".to_string().into()));
-    let meta = Metadata {
-        flags: 3,
-        columns: 1,
-        paging: Some(Some(vec![7, 8].into())),
-        table,
-        specs: Some(vec![spec("c", plain(Kind::Int))].into()),
-    };
-    let frame = written(Message::Rows(Rows { meta, rows: 1, cells: vec![Value::from(1)].into() }));
+    let table = Some(("k".to_string(), "t".to_string()));
+    let meta = Metadata { flags: 3, columns: 1, paging: Some(Some(vec![7, 8])), table, specs: Some(vec![spec("c", plain(Kind::Int))]) };
+    let frame = written(Message::Rows(Rows { meta, rows: 1, cells: vec![Value::from(1)] }));
     let rows = page_rows::<(i32,)>(&frame).unwrap();
     let head = rows.head();
     assert_eq!((head.columns, head.rows, head.paging_state.as_deref(), head.ended), (1, 1, Some(&[7, 8][..]), false));

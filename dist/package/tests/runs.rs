@@ -1,7 +1,7 @@
 //! Runs that do not finish: how each ends, what is held then, and what a second run takes; and that a sink has all events of a read before the next.
 #![forbid(unsafe_code)]
 
-use cqlp::{Decoder, Event, Finish, Global, Held, IoFault, Limits, Outcome, Sink, SinkFault, Source, run};
+use cqlp::{Decoder, Event, Finish, Held, IoFault, Limits, Outcome, Sink, SinkFault, Source, run};
 use std::cell::Cell;
 
 const LIMITS: Limits = Limits { text: 64, cell: 64, entries: 8, depth: 3, types: true, parts: false };
@@ -66,7 +66,7 @@ fn runs_that_do_not_finish() {
         (20, 9, 1, (Outcome::Turns, held(7), 2, 0), Some(4)),
     ];
     for (front, room, turns, wanted, later) in rows {
-        let mut decoder = Decoder::new(Global, LIMITS).unwrap();
+        let mut decoder = Decoder::new(LIMITS).unwrap();
         let source = Front { rest: &SUPPORTED[..front], reads_to_fault: Some(1) };
         assert_eq!(ended(&mut decoder, source, room, turns), wanted, "{front} bytes");
         if let Some(later) = later {
@@ -110,6 +110,6 @@ impl Source for Looks<'_> {
 fn events_are_taken_before_the_next_read() {
     let taken = Cell::new(0);
     let mut source = Looks { frames: 3, taken: &taken, before: Vec::new() };
-    let outcome = run(&mut Decoder::new(Global, LIMITS).unwrap(), &mut source, &mut Adds(&taken), 9);
+    let outcome = run(&mut Decoder::new(LIMITS).unwrap(), &mut source, &mut Adds(&taken), 9);
     assert_eq!((outcome, source.before), (Outcome::Finished(Finish::Whole { bytes: 27 }), vec![0, 2, 4, 6]));
 }

@@ -23,7 +23,7 @@ mod table;
 
 use connection::{Connection, LONGEST_BODY, MOST_FIELDS};
 use cqlp::frame::{BatchEntry, BuildLimits, ErrorExtra, Frame, FrameBuilder, Message, OwnedBound, QueryParams, Value, encode, raw_value};
-use cqlp::{Decoder, Global, Limits, OfStd, Step};
+use cqlp::{Decoder, Limits, OfStd, Step};
 use listening::{MOST_CONNECTIONS, listen};
 use node::Node;
 use std::io::{ErrorKind, Read, Write};
@@ -66,7 +66,7 @@ fn exchange(node: &Node, requests: &[u8], size: usize) -> (Vec<u8>, bool) {
 /// The frames that bytes are, all of them.
 fn frames(bytes: &[u8]) -> Vec<Frame> {
     let limits = BuildLimits { fields: 1_000_000, depth: 10, bytes: 10_000_000 };
-    let (mut decoder, mut builder) = (Decoder::new(Global, Limits::DEFAULT).unwrap(), FrameBuilder::new(Global, limits));
+    let (mut decoder, mut builder) = (Decoder::new(Limits::DEFAULT).unwrap(), FrameBuilder::new(limits));
     let (mut rest, mut frames) = (bytes, Vec::new());
     loop {
         match decoder.next(rest) {
@@ -89,7 +89,7 @@ fn bytes(stream: i16, message: Message) -> Vec<u8> {
 }
 
 fn startup() -> Vec<u8> {
-    bytes(0, Message::Startup(vec![("CQL_VERSION".to_string().into(), "3.0.0".to_string().into())].into()))
+    bytes(0, Message::Startup(vec![("CQL_VERSION".to_string(), "3.0.0".to_string())]))
 }
 
 /// What is answered to this request, the second of a connection, after which a third is answered as well.
@@ -106,15 +106,15 @@ fn ask(node: &Node, message: Message) -> Frame {
 
 /// The parameters of a page of this size from a paging state on, with these flags beside.
 fn params(page_size: Option<i32>, state: Option<Vec<u8>>, key: Option<i32>, flags: u8) -> QueryParams {
-    let values = key.map(|key| vec![(None, OwnedBound::Bytes(key.to_be_bytes().to_vec().into()))].into());
-    let paging = state.map(|state| Some(state.into()));
+    let values = key.map(|key| vec![(None, OwnedBound::Bytes(key.to_be_bytes().to_vec()))]);
+    let paging = state.map(Some);
     let announced = [(0x01, key.is_some()), (0x04, page_size.is_some()), (0x08, paging.is_some())];
     let flags = announced.iter().filter(|(_, is_there)| *is_there).fold(flags, |flags, (flag, _)| flags | flag);
     QueryParams { consistency: 1, flags, values, page_size, paging, serial: None, timestamp: None }
 }
 
 fn query(text: &str, params: QueryParams) -> Message {
-    Message::Query { text: text.to_string().into(), params }
+    Message::Query { text: text.to_string(), params }
 }
 
 /// A statement with spaces after it, up to this many bytes.
@@ -123,7 +123,7 @@ fn padded(text: &str, len: usize) -> String {
 }
 
 fn execute(id: &[u8], params: QueryParams) -> Message {
-    Message::Execute { id: id.to_vec().into(), params }
+    Message::Execute { id: id.to_vec(), params }
 }
 
 fn plain() -> QueryParams {
@@ -155,8 +155,8 @@ fn pages(node: &Node, mut request: impl FnMut(Option<Vec<u8>>) -> Message) -> (V
         };
         assert_eq!(rows.cells.len(), rows.rows as usize * rows.meta.columns as usize);
         assert_eq!(rows.meta.paging.is_some(), rows.meta.flags & 2 > 0);
-        cells.extend(rows.cells.into_std());
-        state = rows.meta.paging.flatten().map(|state| state.into_std());
+        cells.extend(rows.cells);
+        state = rows.meta.paging.flatten();
         if state.is_none() {
             return (cells, count);
         }
@@ -170,7 +170,7 @@ fn cells(keys: std::ops::Range<i32>, is_raw: bool) -> Vec<Value> {
     let in_row = table.columns.len();
     let rows = table.rows.into_iter().filter(|row| keys.clone().any(|key| row[0] == Value::from(key)));
     let raw = |(place, value): (usize, Value)| match is_raw {
-        true => raw_value(Global, &value, Some(&table.columns[place % in_row].tree)).unwrap(),
+        true => raw_value(&value, Some(&table.columns[place % in_row].tree)).unwrap(),
         false => value,
     };
     rows.flatten().enumerate().map(raw).collect()
@@ -244,7 +244,7 @@ fn statements_are_answered() {
         assert_eq!(columns, expected);
     }
     for text in ["USE ks", "use \"ks\";"] {
-        assert_eq!(ask(&node, query(text, plain())).message, Message::SetKeyspace("ks".to_string().into()));
+        assert_eq!(ask(&node, query(text, plain())).message, Message::SetKeyspace("ks".to_string()));
     }
 }
 
@@ -268,7 +268,7 @@ fn statements_that_it_does_not_know_are_answered_by_errors() {
 #[test]
 fn a_statement_is_prepared_and_executed() {
     let node = Node::new().unwrap();
-    let prepare = |text: &str| ask(&node, Message::Prepare(text.to_string().into())).message;
+    let prepare = |text: &str| ask(&node, Message::Prepare(text.to_string())).message;
     let Message::Prepared(prepared) = prepare("SELECT t FROM ks.t WHERE k = ?") else {
         panic!("not prepared");
     };
@@ -280,12 +280,12 @@ fn a_statement_is_prepared_and_executed() {
     assert_eq!(rows(params(None, None, Some(5), 2)), Ok(25));
     assert_eq!(rows(plain()), Err(0x2200));
     for content in [vec![], vec![1; 3], vec![1; 5]] {
-        let values = Some(vec![(None, OwnedBound::Bytes(content.clone().into()))].into());
+        let values = Some(vec![(None, OwnedBound::Bytes(content.clone()))]);
         let expected = if content.is_empty() { Ok(0) } else { Err(0x2200) };
         assert_eq!(rows(QueryParams { flags: 1, values, ..plain() }), expected);
     }
     for value in [OwnedBound::Null, OwnedBound::Unset] {
-        assert_eq!(rows(QueryParams { flags: 1, values: Some(vec![(None, value)].into()), ..plain() }), Err(0x2200));
+        assert_eq!(rows(QueryParams { flags: 1, values: Some(vec![(None, value)]), ..plain() }), Err(0x2200));
     }
     assert!(matches!(prepare("SELECT k FROM ks.t WHERE c = ?"), Message::Prepared(prepared) if prepared.keys.is_empty()));
     assert_eq!(error(&prepare("USE ks")).unwrap().0, 0x2200);
@@ -301,8 +301,8 @@ fn a_statement_is_prepared_and_executed() {
 }
 
 fn batch(statements: usize) -> Message {
-    let entries: Vec<_> = (0..statements).map(|_| BatchEntry::Text("INSERT".to_string().into(), vec![].into())).collect();
-    Message::Batch { kind: 0, entries: entries.into(), consistency: 1, flags: 0, serial: None, timestamp: None }
+    let entries: Vec<_> = (0..statements).map(|_| BatchEntry::Text("INSERT".to_string(), vec![])).collect();
+    Message::Batch { kind: 0, entries, consistency: 1, flags: 0, serial: None, timestamp: None }
 }
 
 #[test]
@@ -315,7 +315,7 @@ fn a_batch_is_answered_with_a_warning() {
 /// A QUERY of so many fields, of which all but four are values.
 fn with_fields(fields: u32) -> Message {
     let values: Vec<_> = (4..fields).map(|_| (None, OwnedBound::Null)).collect();
-    query("SELECT * FROM ks.t WHERE k = 1", QueryParams { flags: 1, values: Some(values.into()), ..plain() })
+    query("SELECT * FROM ks.t WHERE k = 1", QueryParams { flags: 1, values: Some(values), ..plain() })
 }
 
 #[test]
@@ -384,7 +384,7 @@ fn garbage_is_answered_by_frames_or_not_at_all() {
     let sent = [
         startup(),
         bytes(1, query("SELECT * FROM ks.t WHERE k = 3", params(Some(10), Some(vec![0; 8]), Some(3), 0))),
-        bytes(2, Message::Prepare("SELECT t FROM ks.t WHERE k = ?".to_string().into())),
+        bytes(2, Message::Prepare("SELECT t FROM ks.t WHERE k = ?".to_string())),
         bytes(3, execute(b"SELECT t FROM ks.t WHERE k = ?", params(Some(10), None, Some(3), 2))),
         bytes(4, batch(2)),
         bytes(5, query("SELECT * FROM system.local WHERE key='local'", plain())),

@@ -1,7 +1,7 @@
 //! The table of types of a decoder, while the columns of a page are read and once they are.
 #![forbid(unsafe_code)]
 
-use cqlp::{Decoder, Global, Kind, Limits, Step, TypeTable};
+use cqlp::{Decoder, Kind, Limits, Step, TypeTable};
 
 const LIMITS: Limits = Limits { text: 64, cell: 64, entries: 8, depth: 4, types: true, parts: false };
 
@@ -12,7 +12,7 @@ const BETWEEN: &[u8] = b"\0\x01d";
 /// A decoder that has read all of these bytes.
 fn decoder(pieces: &[&[u8]]) -> Decoder {
     let bytes = pieces.concat();
-    let mut decoder = Decoder::new(Global, LIMITS).unwrap();
+    let mut decoder = Decoder::new(LIMITS).unwrap();
     let mut rest = &bytes[..];
     while let Step::Event { used, .. } = decoder.next(rest) {
         rest = &rest[used..];

@@ -5,7 +5,7 @@
 
 use crate::common::{Stream, said, streams};
 use cqlp::text::{Ending, ending_line, event_line, render_events, render_rows};
-use cqlp::{Decoder, Event, Fed, Finish, Global, IoFault, OfStd, Outcome, Sink, SinkFault, Source, Target, run};
+use cqlp::{Decoder, Event, Fed, Finish, IoFault, OfStd, Outcome, Sink, SinkFault, Source, Target, run};
 
 /// How many bytes a read gives where a run stops between two reads.
 const PIECE: usize = 7;
@@ -87,7 +87,7 @@ impl Sink for Takes {
 }
 
 fn decoder(stream: &Stream) -> Decoder {
-    Decoder::new(Global, stream.limits).unwrap()
+    Decoder::new(stream.limits).unwrap()
 }
 
 /// The lines of the events of these bytes, and how their reading ends.

@@ -12,7 +12,6 @@ use crate::cqlp_options::{CommandLine, NoTask};
 use crate::cqlp_round_trip::{RoundTripError, write_and_read};
 use crate::cqlp_type::{TypeReader, TypeTable};
 use crate::heap::{measured, refusing};
-use crate::kit_std::alloc::Global;
 
 const LIMITS: Limits = Limits { text: 128, cell: 64, entries: 8, depth: 3, types: true, parts: false };
 
@@ -31,12 +30,12 @@ fn answer<T>(made: Result<T, NoMemory>) -> Answer {
 /// Memory for the lists, for a table, for the one that is kept, and for that of a page, in this order; without it for the one that is kept no types
 /// are known.
 fn prepared_types() -> Answer {
-    let mut known = match PreparedTypes::new(Global, 1, 1) {
+    let mut known = match PreparedTypes::new(1, 1) {
         Ok(known) => known,
         Err(NewPreparedError::NoMemory) => return Answer::NoMemory,
         Err(NewPreparedError::BadLimit) => return Answer::Other,
     };
-    let Ok(table) = TypeTable::new(Global, LIMITS.entries) else { return Answer::NoMemory };
+    let Ok(table) = TypeTable::new(LIMITS.entries) else { return Answer::NoMemory };
     let kept = known.prepared(b"id", &table);
     known.executed(7, b"id");
     match (kept, known.types_for(7)) {
@@ -59,7 +58,7 @@ impl Sink for Counts {
 /// The frame is four events, of which none is handed out before all memory is there.
 fn written_and_read(frame: &Frame) -> Answer {
     let mut sink = Counts(0);
-    match (write_and_read(Global, frame, LIMITS, &mut sink), sink.0) {
+    match (write_and_read(frame, LIMITS, &mut sink), sink.0) {
         (Ok(_), 4) => Answer::Granted,
         (Err(RoundTripError::NoMemory), 0) => Answer::NoMemory,
         _ => Answer::Other,
@@ -69,11 +68,11 @@ fn written_and_read(frame: &Frame) -> Answer {
 /// Each request is refused, alone and with all after it: the call says so, asks for no more than it has to, and gives back what it took.
 #[test]
 fn memory_that_is_refused() {
-    let frame = Frame::version_error(Global, &[5, 0, 0, 0, 5, 0, 0, 0, 0]).unwrap();
+    let frame = Frame::version_error(&[5, 0, 0, 0, 5, 0, 0, 0, 0]).unwrap();
     let calls: [(&str, u64, &dyn Fn() -> Answer); 5] = [
-        ("Partial", 1, &|| answer(Partial::new(Global, LIMITS.text))),
-        ("TypeReader", 1, &|| answer(TypeReader::new(Global, &LIMITS))),
-        ("CellReader", 1, &|| answer(CellReader::new(Global, &LIMITS))),
+        ("Partial", 1, &|| answer(Partial::new(LIMITS.text))),
+        ("TypeReader", 1, &|| answer(TypeReader::new(&LIMITS))),
+        ("CellReader", 1, &|| answer(CellReader::new(&LIMITS))),
         ("PreparedTypes", 5, &prepared_types),
         ("write_and_read", 5, &|| written_and_read(&frame)),
     ];
@@ -141,7 +140,7 @@ fn rows_without_memory() {
 /// The last request of a command line with several files is for the paths behind the first; without it there is no memory, and no mistake.
 #[test]
 fn files_without_memory() {
-    let parsed = || CommandLine::parse(Global, &["capture", "a", "--json", "b", "c"]);
+    let parsed = || CommandLine::parse(&["capture", "a", "--json", "b", "c"]);
     let ((line, requests), _, kept) = measured(|| {
         let (line, requests) = refusing(u64::MAX, u64::MAX, parsed);
         (line.map(|line| matches!(line, CommandLine::Capture(options) if options.file == "a" && options.more[..] == ["b", "c"])), requests)

@@ -1,7 +1,6 @@
 //! What dist/shims/cli/json.rs reads, beside json_texts.txt: a line for each text, its bytes in hexadecimal digits, and what dist/json_texts says that
 //! it is by Python's reader. The kit's own `json` says the same of each.
 use crate::json::{Scratch, Value};
-use crate::kit_std::alloc::Global;
 use std::fmt::Write;
 
 fn shown(value: &Value<'_>, out: &mut String) {
@@ -38,13 +37,13 @@ fn shown_text(text: &str, out: &mut String) {
 
 #[test]
 fn texts_are_read_as_by_other_readers() {
-    let mut scratch = Scratch::new(Global);
+    let mut scratch = Scratch::new();
     let mut count = 0;
     for line in include_str!("json_texts.txt").lines() {
         let (digits, wanted) = line.split_once(' ').unwrap();
         let bytes: Vec<u8> = digits.as_bytes().chunks(2).map(|pair| u8::from_str_radix(std::str::from_utf8(pair).unwrap(), 16).unwrap()).collect();
         let mut said = String::new();
-        match Value::from_slice(Global, &bytes, &mut scratch) {
+        match Value::from_slice(&bytes, &mut scratch) {
             Ok(value) => shown(&value, &mut said),
             Err(_) => said.push_str("invalid"),
         }
@@ -56,8 +55,8 @@ fn texts_are_read_as_by_other_readers() {
 
 #[test]
 fn a_member_that_comes_twice_is_the_last() {
-    let mut scratch = Scratch::new(Global);
-    let value = Value::from_slice(Global, br#"{"a": 1, "b": [7, "x\n"], "\u0061": 2, "c": -2, "d": 1.5, "e": 18446744073709551616}"#, &mut scratch);
+    let mut scratch = Scratch::new();
+    let value = Value::from_slice(br#"{"a": 1, "b": [7, "x\n"], "\u0061": 2, "c": -2, "d": 1.5, "e": 18446744073709551616}"#, &mut scratch);
     let Ok(value) = value else { panic!() };
     let number = |name| value.get(name).and_then(Value::as_u64);
     assert_eq!(["a", "c", "d", "e", "f"].map(number), [Some(2), None, None, None, None]);

@@ -11,7 +11,6 @@ use crate::cqlp_note::{IoFault, OfStd, Source};
 use crate::cqlp_capture_streams::{Buffering, CaptureInput, FileFault, StreamFile, StreamFiles, StreamsLimits, write_streams};
 use crate::heap::measured;
 use crate::cqlp_statement_file::StatementTexts;
-use crate::kit_std::alloc::Global;
 use std::collections::HashMap;
 
 /// As the program has them where none are given.
@@ -110,7 +109,7 @@ struct Made {
 fn made(file: &[u8], most: usize, ports: &[u16], calls: usize) -> Made {
     let mut pieces = Pieces { rest: file, most, numbers: Numbers(most as u64 | 1) };
     let (files, out, err) = (Sums::with_room(calls), OfStd::new(Vec::with_capacity(64 << 20)), OfStd::new(Vec::with_capacity(1_000)));
-    let ((status, files, out, err), taken, held) = measured(|| write_streams(Global, StreamsLimits::DEFAULT, ports, &mut pieces, files, out, err));
+    let ((status, files, out, err), taken, held) = measured(|| write_streams(StreamsLimits::DEFAULT, ports, &mut pieces, files, out, err));
     assert!(taken <= 48 << 20, "{taken} bytes of memory");
     assert_eq!(held, 0);
     Made { status, kept: files.kept, open: files.open.len(), lines: text(out), said: text(err) }
@@ -135,17 +134,17 @@ fn outcome(file: &[u8], most: usize, room: isize, write: impl Fn(&mut Pieces, Of
 
 /// The exchanges in a file that are asked for, in this form.
 fn exchanges(file: &[u8], most: usize, ports: &[u16], filter: ExchangeFilter, form: ExchangeForm) -> Outcome {
-    outcome(file, most, 64, |pieces, out, err| write_exchanges(Global, StreamsLimits::DEFAULT, ExchangeLimits::DEFAULT, ports, StatementTexts::new(Global), filter, form, Buffering::Block, pieces, out, err))
+    outcome(file, most, 64, |pieces, out, err| write_exchanges(StreamsLimits::DEFAULT, ExchangeLimits::DEFAULT, ports, StatementTexts::new(), filter, form, Buffering::Block, pieces, out, err))
 }
 
 /// The events of the frames in a file.
 fn events(file: &[u8], most: usize, ports: &[u16]) -> Outcome {
-    outcome(file, most, 70, |pieces, out, err| write_events(Global, StreamsLimits::DEFAULT, ports, None, pieces, out, err))
+    outcome(file, most, 70, |pieces, out, err| write_events(StreamsLimits::DEFAULT, ports, None, pieces, out, err))
 }
 
 /// The pages on the connection with this number.
 fn rows(file: &[u8], most: usize, ports: &[u16], connection: u64) -> Outcome {
-    outcome(file, most, 64, |pieces, out, err| write_rows(Global, StreamsLimits::DEFAULT, ports, connection, pieces, out, err))
+    outcome(file, most, 64, |pieces, out, err| write_rows(StreamsLimits::DEFAULT, ports, connection, pieces, out, err))
 }
 
 /// The lines say how long the files are, and the last line how long all of them are.

@@ -7,8 +7,8 @@
 
 use cqlp::frame::{Message, Prepared, QueryParams};
 use cqlp::rows::{PageReader, RowSink};
-use cqlp::wire::{ClientSide, FrameReader, Heard};
-use cqlp::{Consistency, Decoder, Global, Limits, bind, row, table_of_specs};
+use cqlp::wire::{ClientSide, FrameReader, Response};
+use cqlp::{Consistency, Decoder, Limits, bind, row, table_of_specs};
 use std::net::{Ipv4Addr, TcpStream};
 use std::thread;
 
@@ -44,7 +44,7 @@ impl Connection {
     /// Waits for the next reply, and returns the number of its request.
     fn wait(&mut self) -> Result<i32> {
         match self.side.wait(&mut self.stream)? {
-            Some(Heard::Reply { carried, .. }) => Ok(carried),
+            Some(Response::Reply { carried, .. }) => Ok(carried),
             _ => Err("the server closed the connection".into()),
         }
     }
@@ -81,9 +81,9 @@ impl Connection {
             (count, sum) = (count + 1, sum + item.total);
             Ok(())
         });
-        let mut decoder = Decoder::new(Global, Limits::DEFAULT)?;
+        let mut decoder = Decoder::new(Limits::DEFAULT)?;
         sink.name_columns(columns)?;
-        decoder.give(table_of_specs(Global, columns)?)?;
+        decoder.give(table_of_specs(columns)?)?;
         self.execute(statement, rows)?;
         self.side.wait_rows(&mut self.stream, &mut decoder, &mut sink)?;
         Ok((count, sum))

@@ -2,7 +2,7 @@
 #![forbid(unsafe_code)]
 
 use cqlp::text::{Ending, ending_line, render_rows};
-use cqlp::{Decoder, Global, Limits, OfStd, Outcome};
+use cqlp::{Decoder, Limits, OfStd, Outcome};
 use std::fs::File;
 use std::io::{Read, Write, stderr, stdin, stdout};
 
@@ -11,7 +11,7 @@ fn main() -> Result<(), Box<dyn std::error::Error>> {
         Some(path) => Box::new(File::open(path)?),
         None => Box::new(stdin().lock()),
     };
-    let mut decoder = Decoder::new(Global, Limits::DEFAULT)?;
+    let mut decoder = Decoder::new(Limits::DEFAULT)?;
     let (outcome, out) = render_rows(&mut decoder, &mut OfStd::new(input), OfStd::new(stdout().lock()), u64::MAX);
     out.into_inner().flush()?;
     match outcome {

@@ -4,10 +4,9 @@
 //! `cargo run --release --example streams CAPTURE [FOLDER]`
 #![forbid(unsafe_code)]
 
-use cqlp::Global;
 use cqlp::capture::{
-    Address, CaptureEvent, CaptureLimits, CaptureReader, CaptureStep, Control, Endpoint, LinkType, Segment, Stream, StreamSegment,
-    StreamStep, read_segment,
+    CaptureEvent, CaptureLimits, CaptureReader, CaptureStep, Control, Endpoint, LinkType, Segment, Stream, StreamSegment, StreamStep,
+    read_segment,
 };
 use cqlp::memory::AllocError;
 use std::collections::{HashMap, VecDeque};
@@ -84,11 +83,11 @@ impl<F: FnMut(u64, Told<'_>) -> io::Result<()>> Directions<F> {
         match self.known.get_mut(&ends) {
             Some(Direction { stream: Some(_), .. }) => return Ok(()),
             Some(_) if !syn => return Ok(()),
-            Some(direction) => *direction = Direction { number: self.count, stream: Some(Stream::new(Global)) },
+            Some(direction) => *direction = Direction { number: self.count, stream: Some(Stream::new()) },
             None => {
                 self.give_up_down_to(MOST - 1)?;
                 self.order.push_back(ends);
-                self.known.insert(ends, Direction { number: self.count, stream: Some(Stream::new(Global)) });
+                self.known.insert(ends, Direction { number: self.count, stream: Some(Stream::new()) });
             }
         }
         (self.tell)(self.count, Told::Began(ends))?;
@@ -142,7 +141,7 @@ impl Direction {
 ///
 /// Those of the capture, of its files, and of `tell`.
 pub fn follow(mut capture: impl Read, tell: impl FnMut(u64, Told<'_>) -> io::Result<()>) -> io::Result<()> {
-    let mut reader = CaptureReader::new(Global, CaptureLimits::DEFAULT).map_err(io::Error::other)?;
+    let mut reader = CaptureReader::new(CaptureLimits::DEFAULT).map_err(io::Error::other)?;
     let mut directions = Directions { known: HashMap::new(), order: VecDeque::new(), count: 0, tell };
     let (mut link, mut original) = (0, 0);
     let mut piece = vec![0; 1 << 18];
@@ -182,11 +181,7 @@ struct Account {
 }
 
 fn name(end: &Endpoint) -> String {
-    let address = match end.address {
-        Address::V4(octets) => IpAddr::from(octets),
-        Address::V6(octets) => IpAddr::from(octets),
-    };
-    format!("{address}.{}", end.port)
+    format!("{}.{}", IpAddr::from(end.address), end.port)
 }
 
 impl Account {

@@ -63,8 +63,8 @@ impl<'a> Scalar<'a> {
 /// use cqlp::frame::{Atom, Frame, Message, Metadata, Rows, Value, encode_rows};
 ///
 /// let meta = Metadata { flags: 4, columns: 2, paging: None, table: None, specs: None };
-/// let frame = Frame::plain(1, Message::Rows(Rows { meta, rows: 3, cells: vec![].into() }));
-/// let raw = |byte| Value::Leaf(Atom::Raw(vec![byte].into()));
+/// let frame = Frame::plain(1, Message::Rows(Rows { meta, rows: 3, cells: vec![] }));
+/// let raw = |byte| Value::Leaf(Atom::Raw(vec![byte]));
 /// let rows: Vec<Vec<Value>> = (0..3).map(|row| vec![raw(row), Value::Null]).collect();
 ///
 /// let mut target = OfStd::new(Vec::new());

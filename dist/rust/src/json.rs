@@ -1,15 +1,14 @@
 //! What the command has of `json`: the value of RFC 8259 that a slice is. Its texts are parts of the slice, or of a `Scratch` where they have escapes.
-use crate::kit_std::alloc::{Allocator, Global};
-use crate::kit_std::vec::Vec;
+use crate::kit_std::vec::KitVec;
 
 const SPACE: [char; 4] = [' ', '\t', '\n', '\r'];
 
 /// The room for texts with escapes, which grows to the longest slice.
-pub struct Scratch<A: Allocator = Global>(Vec<u8, A>);
+pub struct Scratch(Vec<u8>);
 
-impl<A: Allocator> Scratch<A> {
-    pub fn new(alloc: A) -> Self {
-        Scratch(Vec::new(alloc))
+impl Scratch {
+    pub fn new() -> Self {
+        Scratch(Vec::new())
     }
 }
 
@@ -19,27 +18,27 @@ pub enum Error {
 }
 
 /// A number is its text, and an object has its members in order.
-pub enum Value<'a, A: Allocator = Global> {
+pub enum Value<'a> {
     Null,
     Bool(bool),
     Number(&'a str),
     String(&'a str),
-    Array(Vec<Value<'a, A>, A>),
-    Object(Vec<(&'a str, Value<'a, A>), A>),
+    Array(Vec<Value<'a>>),
+    Object(Vec<(&'a str, Value<'a>)>),
 }
 
-impl<'a, A: Allocator + Copy> Value<'a, A> {
+impl<'a> Value<'a> {
     /// The one value that the bytes are, with at most 128 arrays and objects in each other.
-    pub fn from_slice<S: Allocator>(alloc: A, bytes: &'a [u8], scratch: &'a mut Scratch<S>) -> Result<Self, Error> {
+    pub fn from_slice(bytes: &'a [u8], scratch: &'a mut Scratch) -> Result<Self, Error> {
         let rest = str::from_utf8(bytes).map_err(|_| Error::Invalid)?;
-        scratch.0.resize(scratch.0.len().max(bytes.len()), 0).map_err(|_| Error::OutOfMemory)?;
+        scratch.0.kit_resize(scratch.0.len().max(bytes.len()), 0).map_err(|_| Error::OutOfMemory)?;
         let mut reader = Reader { rest, room: &mut scratch.0 };
-        let value = reader.value(alloc, 128)?;
+        let value = reader.value(128)?;
         if reader.rest.trim_start_matches(SPACE).is_empty() { Ok(value) } else { Err(Error::Invalid) }
     }
 }
 
-impl<'a, A: Allocator> Value<'a, A> {
+impl<'a> Value<'a> {
     /// A number with no sign, point or exponent, if it fits.
     pub fn as_u64(&self) -> Option<u64> {
         if let Value::Number(text) = self { text.parse().ok() } else { None }
@@ -49,12 +48,12 @@ impl<'a, A: Allocator> Value<'a, A> {
         if let Value::String(text) = self { Some(text) } else { None }
     }
 
-    pub fn at(&self, index: usize) -> Option<&Value<'a, A>> {
+    pub fn at(&self, index: usize) -> Option<&Value<'a>> {
         if let Value::Array(items) = self { items.get(index) } else { None }
     }
 
     /// The last member of that name.
-    pub fn get(&self, name: &str) -> Option<&Value<'a, A>> {
+    pub fn get(&self, name: &str) -> Option<&Value<'a>> {
         let Value::Object(members) = self else { return None };
         members.iter().rev().find(|member| member.0 == name).map(|member| &member.1)
     }
@@ -73,24 +72,24 @@ impl<'a> Reader<'a> {
         (self.rest.len() < rest.len()).then_some(())
     }
 
-    fn value<A: Allocator + Copy>(&mut self, alloc: A, depth: usize) -> Result<Value<'a, A>, Error> {
+    fn value(&mut self, depth: usize) -> Result<Value<'a>, Error> {
         match depth.checked_sub(1) {
             _ if self.take('"').is_some() => self.string().map(Value::String),
-            Some(depth) if self.take('[').is_some() => self.list(alloc, ']', |reader| reader.value(alloc, depth)).map(Value::Array),
+            Some(depth) if self.take('[').is_some() => self.list(']', |reader| reader.value(depth)).map(Value::Array),
             Some(depth) if self.take('{').is_some() => {
-                self.list(alloc, '}', |reader| Ok((reader.name()?, reader.value(alloc, depth)?))).map(Value::Object)
+                self.list('}', |reader| Ok((reader.name()?, reader.value(depth)?))).map(Value::Object)
             }
             _ => self.word(),
         }
     }
 
-    fn list<T, A: Allocator>(&mut self, alloc: A, end: char, item: impl Fn(&mut Self) -> Result<T, Error>) -> Result<Vec<T, A>, Error> {
-        let mut items = Vec::new(alloc);
+    fn list<T>(&mut self, end: char, item: impl Fn(&mut Self) -> Result<T, Error>) -> Result<Vec<T>, Error> {
+        let mut items = Vec::new();
         while self.take(end).is_none() {
             if !items.is_empty() {
                 self.take(',').ok_or(Error::Invalid)?;
             }
-            items.push(item(self)?).map_err(|_| Error::OutOfMemory)?;
+            items.kit_push(item(self)?).map_err(|_| Error::OutOfMemory)?;
         }
         Ok(items)
     }
@@ -101,7 +100,7 @@ impl<'a> Reader<'a> {
         self.take(':').map(|()| name).ok_or(Error::Invalid)
     }
 
-    fn word<A: Allocator>(&mut self) -> Result<Value<'a, A>, Error> {
+    fn word(&mut self) -> Result<Value<'a>, Error> {
         let end = self.rest.find(|c| SPACE.contains(&c) || ",:[]{}".contains(c)).unwrap_or(self.rest.len());
         let (word, rest) = self.rest.split_at(end);
         self.rest = rest;

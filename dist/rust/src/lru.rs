@@ -1,6 +1,6 @@
 //! `LruCache`, as far as it is called: a map by hash, whose entries are linked from the one that was used last.
-use crate::kit_std::alloc::{AllocError, AllocFailed, Allocator, Global};
-use crate::kit_std::boxed::Box;
+use crate::kit_std::alloc::{AllocError, AllocFailed};
+use crate::kit_std::boxed::KitBox;
 use std::collections::HashMap;
 use std::hash::{BuildHasher, BuildHasherDefault, Hash, Hasher, RandomState};
 use std::marker::PhantomData;
@@ -80,7 +80,7 @@ impl Hasher for Folded {
     }
 }
 
-pub struct LruCache<K, V, S, A> {
+pub struct LruCache<K, V, S> {
     /// Where a hash begins, and what its pieces are multiplied by: random numbers, the second of them odd.
     state: u64,
     factor: u64,
@@ -91,21 +91,16 @@ pub struct LruCache<K, V, S, A> {
     free: Vec<u32>,
     first: u32,
     last: u32,
-    alloc: A,
     hasher: PhantomData<S>,
 }
 
-impl<K: Copy + Eq + Hash, V, S, A: Allocator> LruCache<K, V, S, A> {
+impl<K: Copy + Eq + Hash, V, S> LruCache<K, V, S> {
     /// A cache that takes its memory as entries come.
-    pub fn sparse(alloc: A, _: NonZeroUsize) -> Result<Self, AllocError> {
+    pub fn sparse(_: NonZeroUsize) -> Result<Self, AllocError> {
         let (places, entries, free) = (HashMap::default(), Vec::new(), Vec::new());
         let random = RandomState::new();
         let (state, factor) = (random.hash_one(0), random.hash_one(1) | 1);
-        Ok(LruCache { state, factor, places, entries, free, first: NONE, last: NONE, alloc, hasher: PhantomData })
-    }
-
-    pub fn allocator(&self) -> &A {
-        &self.alloc
+        Ok(LruCache { state, factor, places, entries, free, first: NONE, last: NONE, hasher: PhantomData })
     }
 
     pub fn len(&self) -> usize {
@@ -177,7 +172,7 @@ impl<K: Copy + Eq + Hash, V, S, A: Allocator> LruCache<K, V, S, A> {
         if !granted {
             return Err(AllocFailed((key, value)));
         }
-        let pair = Some(Box::new(Global, (key, value))?);
+        let pair = Some(Box::kit_new((key, value))?);
         let at = self.free.pop().unwrap_or(self.entries.len() as u32);
         let same = self.places.insert(self.hash(&key), at).unwrap_or(NONE);
         let entry = Entry { pair, before: NONE, after: NONE, same };
@@ -193,7 +188,7 @@ impl<K: Copy + Eq + Hash, V, S, A: Allocator> LruCache<K, V, S, A> {
     /// Takes the entry away that was used last.
     pub fn pop_mru(&mut self) -> Option<(K, V)> {
         let at = self.first;
-        let pair = Box::into_inner(self.entries.get_mut(at as usize)?.pair.take()?);
+        let pair = *(self.entries.get_mut(at as usize)?.pair.take()?);
         self.unlink(at);
         self.forget(self.hash(&pair.0), at);
         self.free.push(at);
@@ -253,7 +248,7 @@ mod tests {
     #[test]
     fn keys_of_one_hash_are_told_apart() {
         for order in [[0, 1, 2], [0, 2, 1], [1, 0, 2], [1, 2, 0], [2, 0, 1], [2, 1, 0]] {
-            let mut cache = LruCache::<_, _, DefaultHasher, _>::sparse(Global, NonZeroUsize::MIN).unwrap();
+            let mut cache = LruCache::<_, _, DefaultHasher>::sparse(NonZeroUsize::MIN).unwrap();
             for key in [0, 1, 2] {
                 assert!(cache.put(Same(key), key).is_ok());
             }

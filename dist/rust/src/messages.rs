@@ -1,6 +1,7 @@
 //! Messages that each client and server needs, in short. Written by hand, and not proved.
 //!
 //! Texts and lists are of std's types here, and are asked for as std does, which ends the program where memory is refused.
+use alloc::boxed::Box;
 use alloc::string::String;
 use alloc::vec::Vec;
 
@@ -8,8 +9,6 @@ use crate::cqlp_kind::Kind;
 use crate::cqlp_message::{BatchEntry, ErrorExtra, Message, Metadata, Prepared, QueryParams, Rows, Spec};
 use crate::cqlp_type::TypeTree;
 use crate::cqlp_value::Value;
-use crate::kit_std::alloc::Global;
-use crate::kit_std::boxed::Box;
 use crate::names::{Consistency, ErrorCode};
 
 /// The flag of metadata: one table for all columns. Section 4.2.5.2 of `native_protocol_v4.spec`.
@@ -23,37 +22,37 @@ impl Message {
     /// A STARTUP without compression.
     #[must_use]
     pub fn startup() -> Message {
-        Message::Startup(Vec::from([("CQL_VERSION".into(), "3.0.0".into())]).into())
+        Message::Startup(Vec::from([("CQL_VERSION".into(), "3.0.0".into())]))
     }
 
     /// A QUERY.
     #[must_use]
     pub fn query(text: impl Into<String>, params: QueryParams) -> Message {
-        Message::Query { text: text.into().into(), params }
+        Message::Query { text: text.into(), params }
     }
 
     /// A PREPARE.
     #[must_use]
     pub fn prepare(text: impl Into<String>) -> Message {
-        Message::Prepare(text.into().into())
+        Message::Prepare(text.into())
     }
 
     /// An EXECUTE of the statement with this id.
     #[must_use]
     pub fn execute(id: &[u8], params: QueryParams) -> Message {
-        Message::Execute { id: id.to_vec().into(), params }
+        Message::Execute { id: id.to_vec(), params }
     }
 
     /// A logged BATCH of these statements.
     #[must_use]
     pub fn batch(entries: Vec<BatchEntry>, consistency: Consistency) -> Message {
-        Message::Batch { kind: 0, entries: entries.into(), consistency: consistency.into(), flags: 0, serial: None, timestamp: None }
+        Message::Batch { kind: 0, entries, consistency: consistency.into(), flags: 0, serial: None, timestamp: None }
     }
 
     /// A REGISTER for events of these types.
     #[must_use]
     pub fn register(types: &[&str]) -> Message {
-        Message::Register(types.iter().map(|&name| name.into()).collect::<Vec<_>>().into())
+        Message::Register(types.iter().map(|&name| name.into()).collect::<Vec<_>>())
     }
 
     /// An ERROR of a code after whose message nothing comes. Section 9 of `native_protocol_v4.spec`.
@@ -65,15 +64,15 @@ impl Message {
     /// The ERROR by which a client prepares a statement again.
     #[must_use]
     pub fn unprepared(id: &[u8]) -> Message {
-        let extra = ErrorExtra::Unprepared { id: id.to_vec().into() };
+        let extra = ErrorExtra::Unprepared { id: id.to_vec() };
         Message::Error { code: ErrorCode::Unprepared.into(), message: "no statement with this id is prepared".into(), extra }
     }
 
     /// A SUPPORTED with these options.
     #[must_use]
     pub fn supported(options: &[(&str, &[&str])]) -> Message {
-        let texts = |texts: &[&str]| texts.iter().map(|&text| text.into()).collect::<Vec<_>>().into();
-        Message::Supported(options.iter().map(|&(name, values)| (name.into(), texts(values))).collect::<Vec<_>>().into())
+        let texts = |texts: &[&str]| texts.iter().map(|&text| text.into()).collect::<Vec<_>>();
+        Message::Supported(options.iter().map(|&(name, values)| (name.into(), texts(values))).collect::<Vec<_>>())
     }
 
     /// A page of this table, with all its cells, row after row. Cells that are no whole rows are left out.
@@ -82,13 +81,13 @@ impl Message {
         let rows = cells.len().checked_div(columns.len()).unwrap_or_default();
         cells.truncate(rows * columns.len());
         let meta = Metadata::of_table(keyspace, table, columns);
-        Message::Rows(Rows { meta, rows: u32::try_from(rows).unwrap_or(u32::MAX), cells: cells.into() })
+        Message::Rows(Rows { meta, rows: u32::try_from(rows).unwrap_or(u32::MAX), cells })
     }
 
     /// A page whose rows are written one by one, after it: [`ServerSide::answer_rows`](crate::wire::ServerSide::answer_rows).
     #[must_use]
     pub fn bare_rows(meta: Metadata, rows: u32) -> Message {
-        Message::Rows(Rows { meta, rows, cells: Vec::new().into() })
+        Message::Rows(Rows { meta, rows, cells: Vec::new() })
     }
 
     /// The message without an offer of compression, if it is a SUPPORTED, and without a wish for it, if it is a STARTUP.
@@ -97,12 +96,11 @@ impl Message {
         match self {
             Message::Startup(options) => {
                 let asks = |name: &str| name.eq_ignore_ascii_case(COMPRESSION);
-                Message::Startup(options.into_std().into_iter().filter(|(name, _)| !asks(name)).collect::<Vec<_>>().into())
+                Message::Startup(options.into_iter().filter(|(name, _)| !asks(name)).collect::<Vec<_>>())
             }
-            Message::Supported(options) => {
-                let mut options = options.into_std();
+            Message::Supported(mut options) => {
                 options.iter_mut().filter(|(name, _)| name.eq_ignore_ascii_case(COMPRESSION)).for_each(|(_, values)| values.clear());
-                Message::Supported(options.into())
+                Message::Supported(options)
             }
             other => other,
         }
@@ -114,7 +112,7 @@ impl Metadata {
     #[must_use]
     pub fn of_table(keyspace: &str, table: &str, columns: Vec<Spec>) -> Metadata {
         let table = Some((keyspace.into(), table.into()));
-        Metadata { flags: GLOBAL_TABLE, columns: columns.len() as u32, paging: None, table, specs: Some(columns.into()) }
+        Metadata { flags: GLOBAL_TABLE, columns: columns.len() as u32, paging: None, table, specs: Some(columns) }
     }
 
     /// So many columns that are not described, as a request with [`QueryParams::without_metadata`] asks for.
@@ -126,7 +124,7 @@ impl Metadata {
     /// The metadata of a page after which others come, from there on. Section 4.2.5.2 of `native_protocol_v4.spec`.
     #[must_use]
     pub fn with_paging_state(self, state: Vec<u8>) -> Metadata {
-        Metadata { flags: self.flags | 2, paging: Some(Some(state.into())), ..self }
+        Metadata { flags: self.flags | 2, paging: Some(Some(state)), ..self }
     }
 }
 
@@ -135,12 +133,12 @@ impl Prepared {
     #[must_use]
     pub fn of_table(id: &[u8], keyspace: &str, table: &str, keys: &[u16], bound: Vec<Spec>, columns: Vec<Spec>) -> Prepared {
         Prepared {
-            id: id.to_vec().into(),
+            id: id.to_vec(),
             flags: GLOBAL_TABLE,
             columns: bound.len() as u32,
-            keys: keys.to_vec().into(),
+            keys: keys.to_vec(),
             table: Some((keyspace.into(), table.into())),
-            specs: bound.into(),
+            specs: bound,
             result: Metadata::of_table(keyspace, table, columns),
         }
     }
@@ -171,7 +169,7 @@ impl From<Kind> for TypeTree {
 
 /// This type in memory of its own, which is asked for as std does.
 fn boxed(of: impl Into<TypeTree>) -> Box<TypeTree> {
-    Box { of: alloc::boxed::Box::new([of.into()]), alloc: Global }
+    Box::new(of.into())
 }
 
 impl TypeTree {

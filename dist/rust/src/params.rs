@@ -1,8 +1,8 @@
 //! Parameters of a request, one after the other, with their flags. Written by hand, and not proved.
 use crate::cqlp_message::QueryParams;
-use crate::kit_std::vec::Vec;
 use crate::names::{Consistency, query_flag};
 use crate::rows::BoundValues;
+use alloc::vec::Vec;
 
 /// Each call sets a part with the flag that announces it. Section 4.1.4 of `native_protocol_v4.spec`.
 ///

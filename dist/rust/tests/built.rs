@@ -4,7 +4,7 @@
 
 use crate::common::{Numbers, count, limits, mutated, streams};
 use cqlp::frame::{BuildError, BuildLimits, BuiltFrame, Composer, Frame, FrameBuilder, encode};
-use cqlp::{Decoder, Event, Field, Global, Header, Kind, Limits, OfStd, Opcode, Scalar, Step};
+use cqlp::{Decoder, Event, Field, Header, Kind, Limits, OfStd, Opcode, Scalar, Step};
 
 const ALL: BuildLimits = BuildLimits { fields: 1 << 24, depth: 64, bytes: 1 << 28 };
 
@@ -17,8 +17,8 @@ struct Seen {
 
 /// The frames of a stream up to its first fault.
 fn frames(limits: Limits, stream: &[u8]) -> Vec<Seen> {
-    let (mut decoder, mut builder) = (Decoder::new(Global, limits).unwrap(), FrameBuilder::new(Global, ALL));
-    let (mut seen, mut rest, mut events, mut composer) = (Vec::new(), stream, Vec::new(), Composer::new(Global, ALL));
+    let (mut decoder, mut builder) = (Decoder::new(limits).unwrap(), FrameBuilder::new(ALL));
+    let (mut seen, mut rest, mut events, mut composer) = (Vec::new(), stream, Vec::new(), Composer::new(ALL));
     while let Step::Event { used, event, .. } = decoder.next(rest) {
         rest = &rest[used..];
         events.push(format!("{event:?}"));
@@ -26,7 +26,7 @@ fn frames(limits: Limits, stream: &[u8]) -> Vec<Seen> {
         let built = builder.take(&event).unwrap();
         assert_eq!((built.is_some(), builder.is_between()), (matches!(event, Event::End { .. }), built.is_some()));
         if let Some(built) = built {
-            let composed = std::mem::replace(&mut composer, Composer::new(Global, ALL)).write(Global).unwrap().into_std();
+            let composed = std::mem::replace(&mut composer, Composer::new(ALL)).write().unwrap();
             seen.push(Seen { events: std::mem::take(&mut events), built, composed });
         }
     }
@@ -81,7 +81,7 @@ fn header(opcode: Opcode, response: bool, length: u32) -> Event<'static> {
 
 /// What a builder within these limits says of each of some events.
 fn said(limits: BuildLimits, events: &[Event<'_>]) -> Vec<Option<BuildError>> {
-    let mut builder = FrameBuilder::new(Global, limits);
+    let mut builder = FrameBuilder::new(limits);
     events.iter().map(|event| builder.take(event).err()).collect()
 }
 
@@ -119,7 +119,7 @@ fn limits_of_a_frame() {
 /// Which event a composer names of the first frame of a stream without one of its events and its end, or of as many of those; and how many it took.
 fn named(limits: Limits, stream: &[u8], without: usize, most: usize) -> (usize, usize) {
     let limits = Limits { types: true, parts: false, ..limits };
-    let (mut decoder, mut composer) = (Decoder::new(Global, limits).unwrap(), Composer::new(Global, ALL));
+    let (mut decoder, mut composer) = (Decoder::new(limits).unwrap(), Composer::new(ALL));
     let (mut rest, mut at, mut taken) = (stream, 0, 0);
     while let Step::Event { used, event, .. } = decoder.next(rest) {
         rest = &rest[used..];
@@ -151,13 +151,13 @@ fn events_that_do_not_fit() {
         }
     }
     assert!(misfits > 300, "{misfits}");
-    assert_eq!(Composer::new(Global, ALL).misfit(), Ok(0));
+    assert_eq!(Composer::new(ALL).misfit(), Ok(0));
 }
 
 /// A frame that is given up leaves nothing; one that is closed has the length of its fields, whatever its header says.
 #[test]
 fn frames_given_up_and_closed() {
-    let mut builder = FrameBuilder::new(Global, ALL);
+    let mut builder = FrameBuilder::new(ALL);
     assert_eq!(builder.close(), Err(BuildError::Misplaced));
     for event in [header(Opcode::Query, false, 9), TEXT] {
         assert_eq!(builder.take(&event), Ok(None));

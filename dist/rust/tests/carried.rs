@@ -2,11 +2,11 @@
 #![forbid(unsafe_code)]
 
 use cqlp::session::{Body, ClientOf, ReplyOf, RequestKind, ServerOf, event_header};
-use cqlp::{Global, Header, Opcode};
+use cqlp::{Header, Opcode};
 
 /// An OPTIONS that carries 5 comes back with it, from a server that carries 7.
 fn is_answered(client: &mut ClientOf<u64>, body: Body) {
-    let mut server = ServerOf::new(Global, 1).unwrap();
+    let mut server = ServerOf::new(1).unwrap();
     let (_, request) = client.begin_with(RequestKind::Options, body, 5).unwrap();
     server.accept(&request, 7).unwrap();
     let (response, _, carried) = server.answer_with(request.stream, Opcode::Supported, body).unwrap();
@@ -16,7 +16,7 @@ fn is_answered(client: &mut ClientOf<u64>, body: Body) {
 
 #[test]
 fn values_come_back() {
-    let mut client = ClientOf::new(Global, 1).unwrap();
+    let mut client = ClientOf::new(1).unwrap();
     for _ in 0..2 {
         is_answered(&mut client, Body::new(0x02, 7).unwrap());
     }
@@ -31,7 +31,7 @@ fn unlawful_bodies_are_none() {
 
 #[test]
 fn events_are_no_replies() {
-    let mut client: ClientOf<u64> = ClientOf::new(Global, 1).unwrap();
+    let mut client: ClientOf<u64> = ClientOf::new(1).unwrap();
     let event = event_header(Body::new(0, 28).unwrap());
     assert!(matches!(client.reply(&event), Ok(ReplyOf::ServerEvent)));
 }
@@ -89,7 +89,7 @@ fn take_step(client: &mut ClientOf<u64>, server: &mut ServerOf<u64>, step: Step)
 /// This and nothing else is carried, and a request is open just where something is.
 #[test]
 fn values_are_told_changed_and_handed_out() {
-    let (mut client, mut server) = (ClientOf::new(Global, 3).unwrap(), ServerOf::new(Global, 3).unwrap());
+    let (mut client, mut server) = (ClientOf::new(3).unwrap(), ServerOf::new(3).unwrap());
     for (place, (step, carried)) in STEPS.into_iter().enumerate() {
         take_step(&mut client, &mut server, step);
         for (id, value) in (-1..4).zip(carried) {

@@ -1,10 +1,10 @@
 //! The arrays of columns: each kind of layout, cells without a value, and where there is no room; and batches of rows.
 use cqlp::columns::{BatchLimits, Cell, Column, ColumnRefusal, Columns, Layout, MakeError, TakeError, layout_of};
-use cqlp::{Address, Event, Global, Kind, Scalar};
+use cqlp::{Address, Event, Kind, Scalar};
 
 /// A column of these cells, or of those before the first that is refused.
 fn filled(kind: Kind, rows: u32, size: usize, cells: &[Cell<'_>]) -> (Column, Option<ColumnRefusal>) {
-    let mut column = Column::new(Global, kind, rows, size).unwrap();
+    let mut column = Column::new(kind, rows, size).unwrap();
     for cell in cells {
         if let Err(why) = column.take(cell) {
             return (column, Some(why));
@@ -58,7 +58,7 @@ fn each_layout_has_its_arrays() {
 fn values_with_items_have_no_layout() {
     for kind in [Kind::List, Kind::Map, Kind::Set, Kind::Udt, Kind::Tuple] {
         assert_eq!(layout_of(kind), None);
-        assert!(matches!(Column::new(Global, kind, 1, 1), Err(MakeError::Unsupported)));
+        assert!(matches!(Column::new(kind, 1, 1), Err(MakeError::Unsupported)));
     }
 }
 
@@ -70,7 +70,7 @@ fn leaf(column: u32, level: u32, scalar: Scalar<'_>) -> Event<'_> {
 
 #[test]
 fn batches_are_full_where_rows_begin() {
-    let mut batch = Columns::new(Global, LIMITS, &[Kind::Varchar, Kind::Int]).unwrap();
+    let mut batch = Columns::new(LIMITS, &[Kind::Varchar, Kind::Int]).unwrap();
     let (text, number) = (leaf(0, 0, Scalar::Varchar("abcde")), leaf(1, 0, Scalar::Int(1)));
     for _ in 0..2 {
         for event in [&text, &number, &Event::End { extra: 0 }, &text] {
@@ -86,7 +86,7 @@ fn batches_are_full_where_rows_begin() {
 
 #[test]
 fn what_is_no_cell_of_a_batch_is_refused_by_name() {
-    let mut batch = Columns::new(Global, LIMITS, &[Kind::Varchar, Kind::Int]).unwrap();
+    let mut batch = Columns::new(LIMITS, &[Kind::Varchar, Kind::Int]).unwrap();
     let enter = Event::Enter { row: 0, column: 0, level: 0, kind: Kind::List, items: 0 };
     let rows = [
         (enter, TakeError::Part),
@@ -98,7 +98,7 @@ fn what_is_no_cell_of_a_batch_is_refused_by_name() {
     for (event, why) in rows {
         assert_eq!((batch.take(&event), batch.columns()[0].len()), (Err(why), 0));
     }
-    let made = |kinds: &[Kind]| Columns::new(Global, LIMITS, kinds).map(|batch| batch.columns().len());
+    let made = |kinds: &[Kind]| Columns::new(LIMITS, kinds).map(|batch| batch.columns().len());
     assert_eq!(made(&[Kind::Int, Kind::List]), Err(MakeError::Unsupported));
     assert_eq!(made(&[Kind::List; 3]), Err(MakeError::TooManyColumns));
     assert_eq!(made(&[]), Ok(0));

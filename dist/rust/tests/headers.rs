@@ -2,8 +2,7 @@
 #![forbid(unsafe_code)]
 
 use cqlp::frame::{Frame, Message, Metadata, Rows, Spec, TypeTree, encode};
-use cqlp::memory::{Box, String, Vec as Items};
-use cqlp::{Decoder, Finish, Global, Header, Kind, Limits, OfStd, Opcode, Reason, Refusal, Step};
+use cqlp::{Decoder, Finish, Header, Kind, Limits, OfStd, Opcode, Reason, Refusal, Step};
 
 fn read(bytes: &[u8; 9]) -> Result<Header, Refusal> {
     Header::from_bytes(bytes)
@@ -67,11 +66,11 @@ fn written(frame: &Frame) -> Vec<u8> {
 }
 
 fn text() -> String {
-    String::from_str(Global, "").unwrap()
+    String::new()
 }
 
 fn int() -> Box<TypeTree> {
-    Box::new(Global, TypeTree::Plain(Kind::Int)).unwrap()
+    Box::new(TypeTree::Plain(Kind::Int))
 }
 
 /// A type of this kind.
@@ -81,18 +80,17 @@ fn tree(kind: Kind) -> TypeTree {
         Kind::List => TypeTree::List(int()),
         Kind::Set => TypeTree::Set(int()),
         Kind::Map => TypeTree::Map(int(), int()),
-        Kind::Udt => TypeTree::Udt { keyspace: text(), name: text(), fields: Items::new(Global) },
-        Kind::Tuple => TypeTree::Tuple(Items::new(Global)),
+        Kind::Udt => TypeTree::Udt { keyspace: text(), name: text(), fields: Vec::new() },
+        Kind::Tuple => TypeTree::Tuple(Vec::new()),
         _ => TypeTree::Plain(kind),
     }
 }
 
 /// A page of no rows and a column of this kind.
 fn page(kind: Kind) -> Frame {
-    let mut specs = Items::new(Global);
-    specs.push(Spec { table: None, name: text(), tree: tree(kind) }).unwrap();
+    let specs = vec![Spec { table: None, name: text(), tree: tree(kind) }];
     let meta = Metadata { flags: 1, columns: 1, paging: None, table: Some((text(), text())), specs: Some(specs) };
-    let message = Message::Rows(Rows { meta, rows: 0, cells: Items::new(Global) });
+    let message = Message::Rows(Rows { meta, rows: 0, cells: Vec::new() });
     Frame { flags: 0, stream: 0, tracing: None, warnings: None, payload: None, message }
 }
 
@@ -111,7 +109,7 @@ fn a_kind_is_written_as_the_id_that_it_is_read_from() {
 
 /// How many events these bytes have, and how they end.
 fn events(bytes: &[u8]) -> (usize, Finish) {
-    let mut decoder = Decoder::new(Global, Limits::DEFAULT).unwrap();
+    let mut decoder = Decoder::new(Limits::DEFAULT).unwrap();
     let (mut at, mut events) = (0, 0);
     while let Step::Event { used, .. } = decoder.next(&bytes[at..]) {
         at += used;
@@ -132,7 +130,7 @@ fn other_versions_are_answered() {
         ([0, 0, 0, 1, 5, 0, 0, 0, 0], [0x84, 0, 0, 1, 0, 0, 0, 0, 0x6a, 0, 0, 0, 0x0a, 0, 0x64], 0),
     ];
     for (header, front, version) in rows {
-        let bytes = written(&Frame::version_error(Global, &header).unwrap());
+        let bytes = written(&Frame::version_error(&header).unwrap());
         let text = format!("Invalid or unsupported protocol version ({version}); the lowest supported version is 4 and the greatest is 4");
         assert_eq!(bytes, [&front, text.as_bytes()].concat(), "{header:x?}");
         assert_eq!(events(&bytes), (4, Finish::Whole { bytes: bytes.len() as u64 }), "{header:x?}");

@@ -2,22 +2,22 @@
 #![forbid(unsafe_code)]
 
 use cqlp::frame::{Atom, Frame, Message, Metadata, Spec, TypeTree, Value};
-use cqlp::{Kind, Limits, OtherValue, memory};
+use cqlp::{Kind, Limits, OtherValue};
 use std::collections::HashSet;
 use std::net::IpAddr;
 
 fn values() -> Vec<Value> {
-    let items = || memory::Vec::from_iter([Value::from(1), Value::Null]);
+    let items = || vec![Value::from(1), Value::Null];
     vec![
         Value::default(),
         Value::Empty,
         Value::from("text"),
         Value::from(vec![1_u8, 2]),
         Value::from(IpAddr::from([127, 0, 0, 1])),
-        Value::Leaf(Atom::Decimal { scale: 2, unscaled: vec![1].into() }),
+        Value::Leaf(Atom::Decimal { scale: 2, unscaled: vec![1] }),
         Value::List(items()),
         Value::Set(items()),
-        Value::Map(vec![(Value::from(1), Value::from("one"))].into()),
+        Value::Map(vec![(Value::from(1), Value::from("one"))]),
         Value::Tuple(items()),
         Value::Udt(items()),
     ]
@@ -72,22 +72,10 @@ fn values_become_types_of_std() {
     assert!(other.to_string().starts_with("i32 is wanted, and Leaf(Varchar("));
 }
 
-/// The types of memory are those of std, both ways.
-#[test]
-fn memory_is_that_of_std() {
-    let text = memory::String::from("text");
-    assert!(text == "text" && text == *"text" && text.as_ref() as &str == "text");
-    assert_eq!(String::from(text.clone()), "text");
-    let items: memory::Vec<i32> = (1..4).collect();
-    assert_eq!(items.clone().into_iter().sum::<i32>(), 6);
-    assert_eq!((items.as_ref() as &[i32], Vec::from(items.clone())), (&[1, 2, 3][..], vec![1, 2, 3]));
-    assert!(memory::Vec::<u8>::default().is_empty() && memory::String::default().is_empty());
-}
-
 /// Compression is neither asked for nor offered.
 #[test]
 fn compression_is_left_out() {
-    let asked = Message::Startup(vec![("CQL_VERSION".into(), "3.0.0".into()), ("compression".into(), "lz4".into())].into());
+    let asked = Message::Startup(vec![("CQL_VERSION".into(), "3.0.0".into()), ("compression".into(), "lz4".into())]);
     assert_eq!(asked.without_compression(), Message::startup());
     let offered = Message::supported(&[("COMPRESSION", &["lz4", "snappy"]), ("CQL_VERSION", &["3.4.4"])]);
     assert_eq!(offered.without_compression(), Message::supported(&[("COMPRESSION", &[]), ("CQL_VERSION", &["3.4.4"])]));

@@ -1,6 +1,6 @@
 //! Pages read into columns: each cut of a page's bytes, cells without a value, batches that fill, and what the columns do not take.
 use cqlp::columns::{BatchLimits, Columns, Filled, PageColumns, Stop};
-use cqlp::{Decoder, Event, Global, Kind, Limits, Sink, SinkFault};
+use cqlp::{Decoder, Event, Kind, Limits, Sink, SinkFault};
 
 const LIMITS: BatchLimits = BatchLimits { columns: 4, rows: 2, bytes: 1 << 10, content: 1 << 6 };
 const KINDS: [Kind; 3] = [Kind::Int, Kind::Varchar, Kind::Boolean];
@@ -47,7 +47,7 @@ fn three_rows() -> Vec<u8> {
 }
 
 fn reader(kinds: &[Kind], room: usize) -> PageColumns<Others> {
-    PageColumns::new(Columns::new(Global, LIMITS, kinds).unwrap(), Others { words: Vec::new(), room })
+    PageColumns::new(Columns::new(LIMITS, kinds).unwrap(), Others { words: Vec::new(), room })
 }
 
 /// The values, the offsets and the bits of a column.
@@ -60,7 +60,7 @@ fn arrays(columns: &Columns) -> Vec<Arrays> {
 
 /// All batches of the pieces, the rest last, and the other events.
 fn read(pieces: &[&[u8]]) -> (Vec<Vec<Arrays>>, Vec<String>) {
-    let mut decoder = Decoder::new(Global, Limits::DEFAULT).unwrap();
+    let mut decoder = Decoder::new(Limits::DEFAULT).unwrap();
     let (mut page, mut batches) = (reader(&KINDS, usize::MAX), Vec::new());
     for piece in pieces {
         let mut used = 0;
@@ -107,7 +107,7 @@ fn each_cut_gives_the_same_arrays() {
 #[test]
 fn what_is_not_taken_goes_to_the_other_sink() {
     let frame = page(&[9, 13, 4], 1, &[Some(&[0, 0, 0, 7]), Some(b"x"), Some(&[1])]);
-    let mut decoder = Decoder::new(Global, Limits::DEFAULT).unwrap();
+    let mut decoder = Decoder::new(Limits::DEFAULT).unwrap();
     let mut other = reader(&[Kind::Int, Kind::Int, Kind::Boolean], usize::MAX);
     let (mut used, mut stops) = (0, Vec::new());
     while used < frame.len() || stops.last() == Some(&Stop::Other) {
@@ -124,11 +124,11 @@ fn what_is_not_taken_goes_to_the_other_sink() {
 #[test]
 fn a_sink_that_fails_and_a_refusal_stop_it() {
     let frame = three_rows();
-    let mut decoder = Decoder::new(Global, Limits::DEFAULT).unwrap();
+    let mut decoder = Decoder::new(Limits::DEFAULT).unwrap();
     let mut page = reader(&KINDS, 1);
     assert_eq!(page.read(&mut decoder, &frame), Filled { used: 9, stop: Stop::Other });
     assert_eq!(page.read(&mut decoder, &frame[9..]).stop, Stop::Failed);
-    let mut decoder = Decoder::new(Global, Limits::DEFAULT).unwrap();
+    let mut decoder = Decoder::new(Limits::DEFAULT).unwrap();
     let mut page = reader(&KINDS, usize::MAX);
     for _ in 0..2 {
         let filled = page.read(&mut decoder, &[0xff; 9]);

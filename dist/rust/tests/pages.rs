@@ -7,8 +7,7 @@ use cqlp::cells::{
     CellBuilder, CellError, CellLimits, HeadError, PageCellError, PageCells, PageProgress, ends_cell, event_size, page_head,
 };
 use cqlp::frame::{Atom, Frame, LentError, Message, Metadata, PageWriter, Rows, Spec, TypeTree, Unfit, Value, encode, encode_rows};
-use cqlp::memory::Box;
-use cqlp::{Decoder, Event, Global, Kind, Limits, OfStd, Scalar, Step};
+use cqlp::{Decoder, Event, Kind, Limits, OfStd, Scalar, Step};
 use std::cell::Cell;
 
 const ROWS: u32 = 3_000;
@@ -16,9 +15,9 @@ const ALL: CellLimits = CellLimits { events: 100, bytes: 1_000 };
 
 /// An int, a list of texts, a map of ints to blobs, and a tuple of an int and a text.
 fn types() -> [TypeTree; 4] {
-    let boxed = |kind| Box::new(Global, TypeTree::Plain(kind)).unwrap();
+    let boxed = |kind| Box::new(TypeTree::Plain(kind));
     let (list, map) = (TypeTree::List(boxed(Kind::Varchar)), TypeTree::Map(boxed(Kind::Int), boxed(Kind::Blob)));
-    [TypeTree::Plain(Kind::Int), list, map, TypeTree::Tuple(vec![TypeTree::Plain(Kind::Int), TypeTree::Plain(Kind::Varchar)].into())]
+    [TypeTree::Plain(Kind::Int), list, map, TypeTree::Tuple(vec![TypeTree::Plain(Kind::Int), TypeTree::Plain(Kind::Varchar)])]
 }
 
 fn int(number: u32) -> Value {
@@ -26,7 +25,7 @@ fn int(number: u32) -> Value {
 }
 
 fn text(number: u32) -> Value {
-    Value::Leaf(Atom::Varchar(format!("text {number}").into()))
+    Value::Leaf(Atom::Varchar(format!("text {number}")))
 }
 
 /// The cell of a row and a column, of which some have no value.
@@ -35,11 +34,9 @@ fn cell(row: u32, column: u32) -> Value {
         (5, _) => Value::Null,
         (6, _) => Value::Empty,
         (_, 0) => int(row),
-        (more, 1) => Value::List((0..more).map(text).collect::<Vec<_>>().into()),
-        (more, 2) => {
-            Value::Map((0..more).map(|i| (int(i), Value::Leaf(Atom::Blob(vec![7; 1 + i as usize].into())))).collect::<Vec<_>>().into())
-        }
-        (more, _) => Value::Tuple((0..1 + more % 2).map(|i| if i == 0 { int(row) } else { text(row) }).collect::<Vec<_>>().into()),
+        (more, 1) => Value::List((0..more).map(text).collect::<Vec<_>>()),
+        (more, 2) => Value::Map((0..more).map(|i| (int(i), Value::Leaf(Atom::Blob(vec![7; 1 + i as usize])))).collect::<Vec<_>>()),
+        (more, _) => Value::Tuple((0..1 + more % 2).map(|i| if i == 0 { int(row) } else { text(row) }).collect::<Vec<_>>()),
     }
 }
 
@@ -50,11 +47,10 @@ fn row(row: u32) -> Vec<Value> {
 
 /// A page of this many rows with these cells.
 fn page(rows: u32, cells: Vec<Value>) -> Frame {
-    let spec = |(i, tree)| Spec { table: None, name: format!("c{i}").into(), tree };
-    let specs = types().into_iter().enumerate().map(spec).collect::<Vec<_>>().into();
-    let meta =
-        Metadata { flags: 1, columns: 4, paging: None, table: Some(("k".to_string().into(), "t".to_string().into())), specs: Some(specs) };
-    Frame::plain(3, Message::Rows(Rows { meta, rows, cells: cells.into() }))
+    let spec = |(i, tree)| Spec { table: None, name: format!("c{i}"), tree };
+    let specs = types().into_iter().enumerate().map(spec).collect::<Vec<_>>();
+    let meta = Metadata { flags: 1, columns: 4, paging: None, table: Some(("k".to_string(), "t".to_string())), specs: Some(specs) };
+    Frame::plain(3, Message::Rows(Rows { meta, rows, cells }))
 }
 
 fn whole(rows: u32) -> Vec<u8> {
@@ -65,7 +61,7 @@ fn whole(rows: u32) -> Vec<u8> {
 
 /// Hands on each event of the cells of a page.
 fn each_event_of_cells(bytes: &[u8], mut take: impl FnMut(&Event<'_>)) {
-    let mut decoder = Decoder::new(Global, Limits::DEFAULT).unwrap();
+    let mut decoder = Decoder::new(Limits::DEFAULT).unwrap();
     for piece in bytes.chunks(100) {
         let mut rest = piece;
         while let Step::Event { used, event, .. } = decoder.next(rest) {
@@ -84,8 +80,8 @@ fn cells_copied_of_their_events() {
     each_event_of_cells(&bytes, |event| len += event_size(event));
     let len = len as u32;
 
-    let mut copied = page_head(Global, &bare, len).unwrap().into_std();
-    let mut cells = Some(PageCells::new(Global, &bare, PageProgress::start(&bare, len).unwrap(), ALL));
+    let mut copied = page_head(&bare, len).unwrap();
+    let mut cells = Some(PageCells::new(&bare, PageProgress::start(&bare, len).unwrap(), ALL));
     let mut place = PageProgress::start(&bare, len).unwrap();
     each_event_of_cells(&bytes, |event| {
         let mut page = cells.take().unwrap();
@@ -94,7 +90,7 @@ fn cells_copied_of_their_events() {
             let written = page.finish().unwrap();
             copied.extend(&written.bytes);
             place = written.place;
-            page = PageCells::new(Global, &bare, place, ALL);
+            page = PageCells::new(&bare, place, ALL);
         }
         cells = Some(page);
     });
@@ -110,7 +106,7 @@ fn cells_built_and_written() {
     let (bytes, bare, types) = (whole(ROWS), page(ROWS, vec![]), types());
     let mut len = 0;
     each_event_of_cells(&bytes, |event| len += event_size(event));
-    let (mut cells, mut copied, mut count) = (CellBuilder::new(Global, ALL), OfStd::new(Vec::new()), 0);
+    let (mut cells, mut copied, mut count) = (CellBuilder::new(ALL), OfStd::new(Vec::new()), 0);
     let mut writer = PageWriter::begin(&bare, len as u32, &mut copied).unwrap();
     each_event_of_cells(&bytes, |event| {
         cells.take(event).unwrap();
@@ -179,7 +175,7 @@ fn events_of_no_next_cell() {
     let bare = page(1, vec![]);
     let cell = |why| Err(PageCellError::Cell(why));
     let part = Event::Part { row: 0, column: 0, level: 0, offset: 0, bytes: b"x", last: true };
-    let mut cells = PageCells::new(Global, &bare, PageProgress::start(&bare, 20).unwrap(), CellLimits { events: 2, bytes: 3 });
+    let mut cells = PageCells::new(&bare, PageProgress::start(&bare, 20).unwrap(), CellLimits { events: 2, bytes: 3 });
     let one = |text| Event::Leaf { row: 0, column: 1, level: 1, scalar: Scalar::Varchar(text) };
     for (event, wanted) in [
         (leaf(1, 0, Scalar::Int(1)), cell(CellError::Misplaced)),
@@ -203,7 +199,7 @@ fn events_of_no_next_cell() {
 fn cells_of_more_bytes_than_were_said() {
     let bare = page(1, vec![]);
     assert!(PageProgress::start(&bare, 3).is_ok());
-    let mut cells = PageCells::new(Global, &bare, PageProgress::start(&bare, 18).unwrap(), ALL);
+    let mut cells = PageCells::new(&bare, PageProgress::start(&bare, 18).unwrap(), ALL);
     let item = Event::Leaf { row: 0, column: 1, level: 1, scalar: Scalar::Varchar("x") };
     for event in [leaf(0, 0, Scalar::Int(1)), enter(1), item] {
         assert_eq!(cells.take(&event), Ok(()));
@@ -222,13 +218,13 @@ fn cells_of_more_bytes_than_were_said() {
 fn pages_that_cannot_begin() {
     let options = Frame::plain(0, Message::Options);
     assert!(PageProgress::start(&options, 0).is_err());
-    assert!(matches!(page_head(Global, &options, 0), Err(HeadError::Unfit(_))));
+    assert!(matches!(page_head(&options, 0), Err(HeadError::Unfit(_))));
     assert_eq!(PageProgress::start(&page(1, vec![]), u32::MAX), Err(Unfit::BodyTooLong));
 }
 
 #[test]
 fn values_of_no_cell() {
-    let mut cells = CellBuilder::new(Global, ALL);
+    let mut cells = CellBuilder::new(ALL);
     let plain = TypeTree::Plain;
     assert_eq!(cells.finish(Some(&plain(Kind::Int))), Err(CellError::NoValue));
     for (of, wanted) in [
@@ -241,7 +237,7 @@ fn values_of_no_cell() {
         assert_eq!(cells.finish(of.as_ref()), wanted);
     }
     cells.take(&leaf(0, 0, Scalar::Raw(b"x"))).unwrap();
-    assert_eq!(cells.finish(None), Ok(Value::Leaf(Atom::Raw(vec![b'x'].into()))));
+    assert_eq!(cells.finish(None), Ok(Value::Leaf(Atom::Raw(vec![b'x']))));
     cells.take(&enter(1)).unwrap();
     assert_eq!(cells.take(&leaf(0, 2, Scalar::Int(1))), Err(CellError::Misplaced));
     cells.clear();

@@ -10,7 +10,7 @@ mod observer;
 mod relay;
 
 use cqlp::frame::{Atom, Frame, Message, Metadata, Rows, Spec, TypeTree, Value, encode};
-use cqlp::{Decoder, Global, Kind, Limits, OfStd, Step};
+use cqlp::{Decoder, Kind, Limits, OfStd, Step};
 use observer::{Observer, Seen, WAITING, Way};
 use std::io::{ErrorKind, Read, Write};
 use std::net::{Ipv4Addr, Shutdown, TcpListener, TcpStream};
@@ -71,11 +71,11 @@ const VOID: &[u8] = &[0, 0, 0, 1];
 
 /// A page of two rows, with a cell that is longer than a decoder's limit.
 fn page(stream: i16) -> Turn {
-    let spec = Spec { table: None, name: "b".to_string().into(), tree: TypeTree::Plain(Kind::Blob) };
-    let table = Some(("ks".to_string().into(), "t".to_string().into()));
-    let meta = Metadata { flags: 1, columns: 1, paging: None, table, specs: Some(vec![spec].into()) };
+    let spec = Spec { table: None, name: "b".to_string(), tree: TypeTree::Plain(Kind::Blob) };
+    let table = Some(("ks".to_string(), "t".to_string()));
+    let meta = Metadata { flags: 1, columns: 1, paging: None, table, specs: Some(vec![spec]) };
     let long = vec![7; Limits::DEFAULT.cell as usize + 1];
-    let cells = vec![Value::Leaf(Atom::Blob(long.into())), Value::Null].into();
+    let cells = vec![Value::Leaf(Atom::Blob(long)), Value::Null];
     let mut bytes = OfStd::new(Vec::new());
     encode(&Frame::plain(stream, Message::Rows(Rows { meta, rows: 2, cells })), &mut bytes).unwrap();
     Turn { way: Way::Responses, bytes: bytes.into_inner() }
@@ -83,7 +83,7 @@ fn page(stream: i16) -> Turn {
 
 /// Whether a decoder refuses the frame.
 fn is_refused(turn: &Turn) -> bool {
-    let mut decoder = Decoder::new(Global, Limits::DEFAULT).unwrap();
+    let mut decoder = Decoder::new(Limits::DEFAULT).unwrap();
     let mut rest = &turn.bytes[..];
     loop {
         match decoder.next(rest) {
@@ -342,7 +342,7 @@ fn a_node_that_dies_in_mid_reply_ends_the_connection() {
 fn no_more_messages_wait_than_there_is_room_for() {
     let kept = Kept::default();
     let mut observer = Observer::new(1, kept.clone()).unwrap();
-    let room = WAITING * size_of::<cqlp::watch::Message<Seen>>();
+    let room = WAITING * size_of::<cqlp::watch::SeenMessage<Seen>>();
     assert!(2 * relay::PIECE + room + size_of::<Observer<Kept>>() < 300_000, "{room} bytes");
     for stream in 0..=WAITING as i16 {
         observer.hear(Way::Requests, &query(stream, "SELECT 1").bytes, 1);

@@ -9,10 +9,10 @@ use cqlp::frame::{
     AppendError, Atom, BindError, BuildError, BuildLimits, Composer, Frame, FrameBuilder, Message, Metadata, OwnedBound, ReadError, Rows,
     Spec, TypeTree, Value, append, bind_value, raw_value, read_value,
 };
-use cqlp::memory::{AllocError, Box, String, Vec};
+use cqlp::memory::{AllocError, try_box};
 use cqlp::session::{Client, ClientOf, Server, ServerOf, SlotsOrMemory};
 use cqlp::{
-    Decoder, Event, Field, Global, Header, Kind, Limits, NewError, NoMemory, Node, Opcode, Scalar, Step, TableError, TypeTable, table_of,
+    Decoder, Event, Field, Header, Kind, Limits, NewError, NoMemory, Node, Opcode, Scalar, Step, TableError, TypeTable, table_of,
     table_of_specs,
 };
 use std::cell::RefCell;
@@ -61,9 +61,9 @@ const SMALL: Limits = Limits { text: 128, cell: 64, entries: 8, depth: 3, types:
 
 #[test]
 fn decoders_and_their_tables() {
-    finds_memory(4, || answer(Decoder::new(Global, SMALL), NewError::NoMemory));
-    finds_memory(4, || answer(Decoder::lenient(Global, SMALL), NewError::NoMemory));
-    finds_memory(1, || answer(TypeTable::new(Global, SMALL.entries), NoMemory));
+    finds_memory(4, || answer(Decoder::new(SMALL), NewError::NoMemory));
+    finds_memory(4, || answer(Decoder::lenient(SMALL), NewError::NoMemory));
+    finds_memory(1, || answer(TypeTable::new(SMALL.entries), NoMemory));
 }
 
 /// A page up to its types, a list of ints.
@@ -78,7 +78,7 @@ fn is_list(table: &TypeTable) -> bool {
 #[test]
 fn copied_tables() {
     finds_memory(5, || {
-        let Ok(mut decoder) = Decoder::new(Global, SMALL) else { return Answer::NoMemory };
+        let Ok(mut decoder) = Decoder::new(SMALL) else { return Answer::NoMemory };
         let mut rest = &LIST_TYPE[..];
         while let Step::Event { used, .. } = decoder.next(rest) {
             rest = &rest[used..];
@@ -93,39 +93,44 @@ fn copied_tables() {
 
 #[test]
 fn cores() {
-    finds_memory(2, || answer(Client::new(Global, 10), SlotsOrMemory::NoMemory));
-    finds_memory(1, || answer(Server::new(Global, 10), SlotsOrMemory::NoMemory));
-    finds_memory(3, || answer(ClientOf::<u64>::new(Global, 10), SlotsOrMemory::NoMemory));
-    finds_memory(2, || answer(ServerOf::<u64>::new(Global, 10), SlotsOrMemory::NoMemory));
+    finds_memory(2, || answer(Client::new(10), SlotsOrMemory::NoMemory));
+    finds_memory(1, || answer(Server::new(10), SlotsOrMemory::NoMemory));
+    finds_memory(3, || answer(ClientOf::<u64>::new(10), SlotsOrMemory::NoMemory));
+    finds_memory(2, || answer(ServerOf::<u64>::new(10), SlotsOrMemory::NoMemory));
 }
 
-fn byte() -> Result<Box<TypeTree>, AllocError> {
-    Ok(Box::new(Global, TypeTree::Plain(Kind::Tinyint))?)
+fn byte() -> Box<TypeTree> {
+    Box::new(TypeTree::Plain(Kind::Tinyint))
+}
+
+#[test]
+fn boxes() {
+    finds_memory(1, || match try_box([1_u8, 2, 3]) {
+        Ok(boxed) if *boxed == [1, 2, 3] => Answer::Granted,
+        Err(failed) if failed.0 == [1, 2, 3] => Answer::NoMemory,
+        _ => Answer::Other,
+    });
 }
 
 /// A tuple of each kind of value that owns memory.
-fn tuple() -> Result<TypeTree, AllocError> {
-    let mut fields = Vec::new(Global);
-    fields.push((String::from_str(Global, "")?, TypeTree::Plain(Kind::Tinyint)))?;
-    let mut types = Vec::new(Global);
-    for kind in [Kind::Ascii, Kind::Blob, Kind::Decimal, Kind::Varchar, Kind::Varint] {
-        types.push(TypeTree::Plain(kind))?;
-    }
-    types.push(TypeTree::Custom(String::from_str(Global, "")?))?;
-    types.push(TypeTree::List(byte()?))?;
-    types.push(TypeTree::Set(byte()?))?;
-    types.push(TypeTree::Map(byte()?, byte()?))?;
-    types.push(TypeTree::Udt { keyspace: String::from_str(Global, "")?, name: String::from_str(Global, "")?, fields })?;
-    Ok(TypeTree::Tuple(types))
+fn tuple() -> TypeTree {
+    let mut types = [Kind::Ascii, Kind::Blob, Kind::Decimal, Kind::Varchar, Kind::Varint].map(TypeTree::Plain).to_vec();
+    types.push(TypeTree::Custom(String::new()));
+    types.push(TypeTree::List(byte()));
+    types.push(TypeTree::Set(byte()));
+    types.push(TypeTree::Map(byte(), byte()));
+    let fields = vec![(String::new(), TypeTree::Plain(Kind::Tinyint))];
+    types.push(TypeTree::Udt { keyspace: String::new(), name: String::new(), fields });
+    TypeTree::Tuple(types)
 }
 
 /// The bytes of a value of that tuple: of each field its length and its content, of a container its count and its items.
-fn bytes() -> std::vec::Vec<u8> {
+fn bytes() -> Vec<u8> {
     let one = [0, 0, 0, 1, 7];
     let list = [&[0, 0, 0, 1], &one[..]].concat();
     let map = [&[0, 0, 0, 1], &one[..], &one].concat();
     let contents: [&[u8]; 10] = [b"a", b"b", &[0, 0, 0, 1, 2], b"d", &[3], &[4], &list, &list, &map, &one];
-    let mut fields = std::vec::Vec::new();
+    let mut fields = Vec::new();
     for content in contents {
         fields.extend((content.len() as u32).to_be_bytes());
         fields.extend(content);
@@ -134,7 +139,7 @@ fn bytes() -> std::vec::Vec<u8> {
 }
 
 fn read(tree: &TypeTree, bytes: &[u8]) -> Answer {
-    match read_value(Global, &Limits::DEFAULT, Some(tree), bytes) {
+    match read_value(&Limits::DEFAULT, Some(tree), bytes) {
         Ok(_) => Answer::Granted,
         Err(ReadError::NoMemory) => Answer::NoMemory,
         Err(_) => Answer::Other,
@@ -144,13 +149,13 @@ fn read(tree: &TypeTree, bytes: &[u8]) -> Answer {
 /// A request at least for each of six scalars and five containers.
 #[test]
 fn values() {
-    let (tree, bytes) = (tuple().unwrap(), bytes());
+    let (tree, bytes) = (tuple(), bytes());
     finds_just_what_is_there(11, || read(&tree, &bytes));
 }
 
 /// The value of that tuple, as it is bound and as a raw cell: one request, for just as many bytes as its content has.
 fn bound(tree: &TypeTree, value: &Value) -> Answer {
-    match bind_value(Global, value, Some(tree)) {
+    match bind_value(value, Some(tree)) {
         Ok(OwnedBound::Bytes(content)) if content.capacity() == content.len() => Answer::Granted,
         Err(BindError::NoMemory) => Answer::NoMemory,
         _ => Answer::Other,
@@ -158,7 +163,7 @@ fn bound(tree: &TypeTree, value: &Value) -> Answer {
 }
 
 fn raw(tree: &TypeTree, value: &Value) -> Answer {
-    match raw_value(Global, value, Some(tree)) {
+    match raw_value(value, Some(tree)) {
         Ok(Value::Leaf(Atom::Raw(content))) if content.capacity() == content.len() => Answer::Granted,
         Err(BindError::NoMemory) => Answer::NoMemory,
         _ => Answer::Other,
@@ -167,14 +172,14 @@ fn raw(tree: &TypeTree, value: &Value) -> Answer {
 
 #[test]
 fn values_that_are_bound() {
-    let tree = tuple().unwrap();
-    let value = read_value(Global, &Limits::DEFAULT, Some(&tree), &bytes()).unwrap();
+    let tree = tuple();
+    let value = read_value(&Limits::DEFAULT, Some(&tree), &bytes()).unwrap();
     for call in [bound, raw] {
         finds_just_what_is_there(1, || call(&tree, &value));
         assert_eq!(refused(0, 0, || call(&tree, &value)).1, 1);
     }
     for value in [Value::Null, Value::Empty] {
-        let made = || bind_value(Global, &value, Some(&tree)).is_ok() && raw_value(Global, &value, Some(&tree)).is_ok();
+        let made = || bind_value(&value, Some(&tree)).is_ok() && raw_value(&value, Some(&tree)).is_ok();
         assert_eq!(refused(1, u64::MAX, || if made() { Answer::Granted } else { Answer::NoMemory }), (Answer::Granted, 0, 0));
     }
 }
@@ -182,9 +187,9 @@ fn values_that_are_bound() {
 /// A table, a text, open options and the bytes of the options, of which the table alone stays.
 #[test]
 fn tables() {
-    let types = [tuple().unwrap(), TypeTree::Plain(Kind::Int)];
-    let specs = [Spec { table: None, name: String::from_str(Global, "c").unwrap(), tree: tuple().unwrap() }];
-    for made in [&(|| table_of(Global, &types)) as &dyn Fn() -> _, &|| table_of_specs(Global, &specs)] {
+    let types = [tuple(), TypeTree::Plain(Kind::Int)];
+    let specs = [Spec { table: None, name: "c".to_string(), tree: tuple() }];
+    for made in [&(|| table_of(&types)) as &dyn Fn() -> _, &|| table_of_specs(&specs)] {
         finds_just_what_is_there(4, || match made() {
             Ok(table) if table.capacity() == table.len() as usize => Answer::Granted,
             Err(TableError::NoMemory) => Answer::NoMemory,
@@ -195,7 +200,7 @@ fn tables() {
 
 #[test]
 fn answers_to_other_versions() {
-    finds_just_what_is_there(1, || match Frame::version_error(Global, &[5, 0, 0, 7, 5, 0, 0, 0, 0]) {
+    finds_just_what_is_there(1, || match Frame::version_error(&[5, 0, 0, 7, 5, 0, 0, 0, 0]) {
         Ok(_) => Answer::Granted,
         Err(AllocError) => Answer::NoMemory,
     });
@@ -207,7 +212,7 @@ fn captures() {
     for (name, size) in [("driver.pcap", 1), ("driver.pcap", 100), ("driver.pcapng", 1), ("driver.pcapng", 100)] {
         let file = std::fs::read(format!("{}/tests/captures/{name}", env!("CARGO_MANIFEST_DIR"))).unwrap();
         finds_memory(2, || {
-            let mut reader = match CaptureReader::new(Global, CaptureLimits::DEFAULT) {
+            let mut reader = match CaptureReader::new(CaptureLimits::DEFAULT) {
                 Ok(reader) => reader,
                 Err(error) => return answer::<(), _>(Err(error), NewReaderError::NoMemory),
             };
@@ -230,7 +235,7 @@ fn streams_of_captures() {
         StreamSegment { control, payload, time: Some(7) }
     };
     finds_just_what_is_there(2, || {
-        let mut stream = Stream::new(Global);
+        let mut stream = Stream::new();
         let began = stream.take(&segment(9, true, b""), 1_000);
         let Ok(kept) = stream.take(&segment(13, false, b"de"), 1_000) else {
             return if stream.size() == 0 { Answer::NoMemory } else { Answer::Other };
@@ -252,7 +257,7 @@ fn streams_of_captures() {
 fn columns() {
     let limits = BatchLimits { columns: 2, rows: 9, bytes: 20, content: 4 };
     finds_just_what_is_there(10, || {
-        let mut columns = match Columns::new(Global, limits, &[Kind::Int, Kind::Varchar]) {
+        let mut columns = match Columns::new(limits, &[Kind::Int, Kind::Varchar]) {
             Ok(columns) => columns,
             Err(MakeError::NoMemory) => return Answer::NoMemory,
             Err(_) => return Answer::Other,
@@ -289,7 +294,7 @@ const BUILD: BuildLimits = BuildLimits { fields: 10, depth: 1, bytes: 10 };
 #[test]
 fn frames_of_events() {
     finds_just_what_is_there(2, || {
-        let mut builder = FrameBuilder::new(Global, BUILD);
+        let mut builder = FrameBuilder::new(BUILD);
         match query().iter().try_fold(None, |_, event| builder.take(event)) {
             Ok(Some(_)) => Answer::Granted,
             Err(BuildError::NoMemory) => Answer::NoMemory,
@@ -297,8 +302,8 @@ fn frames_of_events() {
         }
     });
     finds_just_what_is_there(3, || {
-        let mut composer = Composer::new(Global, BUILD);
-        match query().iter().try_for_each(|event| composer.take(event)).and_then(|()| composer.write(Global)) {
+        let mut composer = Composer::new(BUILD);
+        match query().iter().try_for_each(|event| composer.take(event)).and_then(|()| composer.write()) {
             Ok(bytes) if bytes.len() == 17 => Answer::Granted,
             Err(BuildError::NoMemory) => Answer::NoMemory,
             _ => Answer::Other,
@@ -310,19 +315,25 @@ fn frames_of_events() {
 /// is refused the bytes are as they were, and where there is room for the frame no memory is asked for.
 #[test]
 fn frames_appended() {
-    let texts: std::vec::Vec<String> = [200, 2000, 20000].map(|len| "x".repeat(len).into()).into();
-    let frame = Frame::plain(0, Message::Register(texts.into()));
+    let texts: Vec<String> = [200, 2000, 20000].map(|len| "x".repeat(len)).into();
+    let frame = Frame::plain(0, Message::Register(texts));
     let appended = |bytes: &mut Vec<u8>| match append(&frame, bytes) {
         Ok(len) if bytes.len() == 3 + len as usize => Answer::Granted,
         Err(AppendError::NoMemory) if bytes[..] == [1, 2, 3] => Answer::NoMemory,
         _ => Answer::Other,
     };
-    finds_just_what_is_there(4, || match Vec::from_slice(Global, &[1, 2, 3]) {
-        Ok(mut bytes) => appended(&mut bytes),
-        Err(_) => Answer::NoMemory,
+    finds_just_what_is_there(4, || {
+        let mut bytes = Vec::new();
+        match bytes.try_reserve_exact(3) {
+            Ok(()) => {
+                bytes.extend([1, 2, 3]);
+                appended(&mut bytes)
+            }
+            Err(_) => Answer::NoMemory,
+        }
     });
-    let room = RefCell::new(Vec::with_capacity(Global, 3 + 22217).unwrap());
-    room.borrow_mut().extend_from_slice(&[1, 2, 3]).unwrap();
+    let room = RefCell::new(Vec::with_capacity(3 + 22217));
+    room.borrow_mut().extend([1, 2, 3]);
     assert_eq!(refused(1, u64::MAX, || appended(&mut room.borrow_mut())), (Answer::Granted, 0, 0));
 }
 
@@ -330,10 +341,10 @@ fn frames_appended() {
 #[test]
 fn cells_of_events() {
     let meta = Metadata { flags: 4, columns: 1, paging: None, table: None, specs: None };
-    let frame = Frame::plain(0, Message::Rows(Rows { meta, rows: 1, cells: Vec::new(Global) }));
+    let frame = Frame::plain(0, Message::Rows(Rows { meta, rows: 1, cells: Vec::new() }));
     let place = PageProgress::start(&frame, 5).unwrap();
     finds_just_what_is_there(3, || {
-        let mut cells = PageCells::new(Global, &frame, place, CellLimits { events: 1, bytes: 1 });
+        let mut cells = PageCells::new(&frame, place, CellLimits { events: 1, bytes: 1 });
         let taken = cells.take(&Event::Leaf { row: 0, column: 0, level: 0, scalar: Scalar::Raw(b"x") });
         match taken.and_then(|()| cells.finish()) {
             Ok(written) if written.bytes.len() == 5 => Answer::Granted,

@@ -3,9 +3,8 @@
 
 use cqlp::cells::CellLimits;
 use cqlp::frame::{Atom, Frame, Message, Metadata, Rows, Spec, TypeTree, Value, encode};
-use cqlp::memory::Box as CqlBox;
 use cqlp::rows::*;
-use cqlp::{Decoder, Event, Fed, Global, Kind, Limits, OfStd, Refusal, Sink, SinkFault, row};
+use cqlp::{Decoder, Event, Fed, Kind, Limits, OfStd, Refusal, Sink, SinkFault, row};
 use std::collections::{BTreeMap, BTreeSet, HashMap};
 use std::fmt::Debug;
 
@@ -13,8 +12,8 @@ fn plain(kind: Kind) -> TypeTree {
     TypeTree::Plain(kind)
 }
 
-fn boxed(tree: TypeTree) -> CqlBox<TypeTree> {
-    CqlBox::new(Global, tree).unwrap()
+fn boxed(tree: TypeTree) -> Box<TypeTree> {
+    Box::new(tree)
 }
 
 fn list(inner: TypeTree) -> TypeTree {
@@ -24,35 +23,35 @@ fn list(inner: TypeTree) -> TypeTree {
 fn specs() -> Vec<Spec> {
     let fields = vec![plain(Kind::Int), TypeTree::Set(boxed(plain(Kind::Varchar))), list(list(plain(Kind::Int)))];
     let pairs = TypeTree::Map(boxed(plain(Kind::Varchar)), boxed(list(plain(Kind::Smallint))));
-    let named = vec![("f".to_string().into(), plain(Kind::Varchar)), ("g".to_string().into(), plain(Kind::Timeuuid))];
-    let udt = TypeTree::Udt { keyspace: "k".to_string().into(), name: "u".to_string().into(), fields: named.into() };
-    let trees = [list(plain(Kind::Int)), pairs, TypeTree::Tuple(fields.into()), udt, plain(Kind::Int)];
-    let spec = |(name, tree): (&str, _)| Spec { table: None, name: name.to_string().into(), tree };
+    let named = vec![("f".to_string(), plain(Kind::Varchar)), ("g".to_string(), plain(Kind::Timeuuid))];
+    let udt = TypeTree::Udt { keyspace: "k".to_string(), name: "u".to_string(), fields: named };
+    let trees = [list(plain(Kind::Int)), pairs, TypeTree::Tuple(fields), udt, plain(Kind::Int)];
+    let spec = |(name, tree): (&str, _)| Spec { table: None, name: name.to_string(), tree };
     ["a", "b", "c", "d", "e"].into_iter().zip(trees).map(spec).collect()
 }
 
 fn text(text: &str) -> Value {
-    Value::Leaf(Atom::Varchar(text.to_string().into()))
+    Value::Leaf(Atom::Varchar(text.to_string()))
 }
 
 fn ints(numbers: &[i32]) -> Value {
-    Value::List(numbers.iter().copied().map(Value::from).collect::<Vec<_>>().into())
+    Value::List(numbers.iter().copied().map(Value::from).collect::<Vec<_>>())
 }
 
 fn shorts(numbers: &[i16]) -> Value {
-    Value::List(numbers.iter().map(|number| Value::Leaf(Atom::Smallint(*number))).collect::<Vec<_>>().into())
+    Value::List(numbers.iter().map(|number| Value::Leaf(Atom::Smallint(*number))).collect::<Vec<_>>())
 }
 
 /// Three rows, some of whose values are empty, null or without their last fields.
 fn cells() -> Vec<Value> {
     let pairs = vec![(text("one"), shorts(&[1, 2])), (text("no"), shorts(&[])), (text("é"), shorts(&[3]))];
-    let inner = Value::List(vec![ints(&[7, 8]), ints(&[]), ints(&[9])].into());
-    let words = Value::Set(vec![text("x"), text("yz")].into());
+    let inner = Value::List(vec![ints(&[7, 8]), ints(&[]), ints(&[9])]);
+    let words = Value::Set(vec![text("x"), text("yz")]);
     let time = Value::Leaf(Atom::Timeuuid(*b"012345\x17\x17abcdefgh"));
-    let full = [ints(&[1, 2, 3]), Value::Map(pairs.into()), Value::Tuple(vec![Value::from(5), words, inner].into())];
-    let short = [ints(&[]), Value::Map(vec![].into()), Value::Tuple(vec![Value::from(6)].into())];
-    let last = [Value::Null, Value::Empty, Value::Tuple(vec![Value::Null, Value::Set(vec![].into()), Value::List(vec![].into())].into())];
-    let rest = |udt: Vec<Value>, number| [Value::Udt(udt.into()), Value::from(number)];
+    let full = [ints(&[1, 2, 3]), Value::Map(pairs), Value::Tuple(vec![Value::from(5), words, inner])];
+    let short = [ints(&[]), Value::Map(vec![]), Value::Tuple(vec![Value::from(6)])];
+    let last = [Value::Null, Value::Empty, Value::Tuple(vec![Value::Null, Value::Set(vec![]), Value::List(vec![])])];
+    let rest = |udt: Vec<Value>, number| [Value::Udt(udt), Value::from(number)];
     let rows = [(full, rest(vec![text("u"), time], 1)), (short, rest(vec![text("v")], 2)), (last, rest(vec![Value::Null], 3))];
     rows.into_iter().flat_map(|(front, rest)| front.into_iter().chain(rest)).collect()
 }
@@ -61,16 +60,15 @@ fn cells() -> Vec<Value> {
 fn page(specs: Vec<Spec>, cells: Vec<Value>, has_types: bool) -> (Vec<u8>, usize) {
     let written = |rows, cells: Vec<Value>, specs: &dyn Fn() -> Vec<Spec>| {
         let columns = specs().len() as u32;
-        let table = has_types.then(|| ("k".to_string().into(), "t".to_string().into()));
-        let meta =
-            Metadata { flags: if has_types { 1 } else { 4 }, columns, paging: None, table, specs: has_types.then(|| specs().into()) };
+        let table = has_types.then(|| ("k".to_string(), "t".to_string()));
+        let meta = Metadata { flags: if has_types { 1 } else { 4 }, columns, paging: None, table, specs: has_types.then(specs) };
         let mut target = OfStd::new(Vec::new());
-        encode(&Frame::plain(7, Message::Rows(Rows { meta, rows, cells: cells.into() })), &mut target).unwrap();
+        encode(&Frame::plain(7, Message::Rows(Rows { meta, rows, cells })), &mut target).unwrap();
         target.into_inner()
     };
     let copies = || specs.iter().map(|spec| Spec { table: None, name: spec.name.clone(), tree: spec.tree.clone() }).collect();
     let start = written(0, vec![], &copies).len();
-    let raw = |(i, cell): (usize, &Value)| cqlp::frame::raw_value(Global, cell, Some(&specs[i % specs.len()].tree)).unwrap();
+    let raw = |(i, cell): (usize, &Value)| cqlp::frame::raw_value(cell, Some(&specs[i % specs.len()].tree)).unwrap();
     let rows = (cells.len() / specs.len()) as u32;
     let cells = if has_types { cells } else { cells.iter().enumerate().map(raw).collect() };
     (written(rows, cells, &copies), start)
@@ -176,7 +174,7 @@ fn changed() -> impl Iterator<Item = Vec<u8>> {
 
 /// A row of type T is refused as the decoder does, and is what a sink reads of the same bytes.
 fn same<T: for<'a> FromRow<'a> + PartialEq + Debug>() {
-    let (mut reader, mut decoder) = (PageReader::new(LIMITS).unwrap(), Decoder::new(Global, LIMITS).unwrap());
+    let (mut reader, mut decoder) = (PageReader::new(LIMITS).unwrap(), Decoder::new(LIMITS).unwrap());
     let mut refused = 0;
     for frame in changed() {
         let (rows, error) = whole::<T>(&mut reader, &frame);
@@ -259,8 +257,8 @@ impl<'a> FromCell<'a> for Known {
 fn a_kind_with_items_is_no_hint() {
     same::<(Known, Nothing, Nothing, Nothing, i32)>();
     let frame = page(
-        vec![Spec { table: None, name: "l".to_string().into(), tree: list(list(plain(Kind::Int))) }],
-        vec![Value::List(vec![ints(&[1, 2])].into())],
+        vec![Spec { table: None, name: "l".to_string(), tree: list(list(plain(Kind::Int))) }],
+        vec![Value::List(vec![ints(&[1, 2])])],
         true,
     )
     .0;
@@ -272,7 +270,7 @@ fn a_kind_with_items_is_no_hint() {
 #[test]
 fn values_in_a_cell_are_limited() {
     let (frame, _) = page(specs(), cells(), true);
-    let mut decoder = Decoder::new(Global, LIMITS).unwrap();
+    let mut decoder = Decoder::new(LIMITS).unwrap();
     for events in 0..20 {
         let limits = CellLimits { events, bytes: 1_000 };
         let mut reader = PageReader::new(LIMITS).unwrap().with_cell_limits(limits);

@@ -2,7 +2,7 @@
 #![forbid(unsafe_code)]
 
 use cqlp::session::{AnswerError, BeginError, Client, Phase, Reply, RequestKind, Server, ServerRefusal, SlotsOrMemory, Stray, Ticket};
-use cqlp::{Finish, Global, Header, Opcode, Outcome, Reason, Refusal};
+use cqlp::{Finish, Header, Opcode, Outcome, Reason, Refusal};
 use std::fmt::Debug;
 
 fn header(response: bool, stream: i16, opcode: Opcode) -> Header {
@@ -30,7 +30,7 @@ enum ClientCall {
 }
 
 fn converse(calls: Vec<(ClientCall, Phase)>) {
-    let mut client = Client::new(Global, 1).unwrap();
+    let mut client = Client::new(1).unwrap();
     for (at, (call, phase)) in calls.into_iter().enumerate() {
         match call {
             ClientCall::Begin(kind, answer) => assert_eq!(client.begin(kind), answer, "call {at}"),
@@ -82,7 +82,7 @@ fn strays_of_a_client() {
 
 #[test]
 fn server_with_two_slots() {
-    let mut server = Server::new(Global, 2).unwrap();
+    let mut server = Server::new(2).unwrap();
     assert_eq!(server.phase(), Phase::Fresh);
     assert_eq!(server.accept(&header(false, 0, Opcode::Query)), Err(ServerRefusal::Phase(Phase::Fresh)));
     assert_eq!(server.accept(&header(false, 2, Opcode::Options)), Err(ServerRefusal::BadId));
@@ -96,8 +96,8 @@ fn server_with_two_slots() {
 #[test]
 fn slots_out_of_range() {
     for slots in [0, 32_769, u16::MAX] {
-        assert!(matches!(Client::new(Global, slots), Err(SlotsOrMemory::BadSlots)), "{slots}");
-        assert!(matches!(Server::new(Global, slots), Err(SlotsOrMemory::BadSlots)), "{slots}");
+        assert!(matches!(Client::new(slots), Err(SlotsOrMemory::BadSlots)), "{slots}");
+        assert!(matches!(Server::new(slots), Err(SlotsOrMemory::BadSlots)), "{slots}");
     }
 }
 

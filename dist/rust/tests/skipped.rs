@@ -1,7 +1,7 @@
 //! A stream that is read on after a frame whose body is refused.
 #![forbid(unsafe_code)]
 
-use cqlp::{Event, Fed, Finish, Global, Limits, NotSkippable, Reason, Refusal, Sink, SinkFault, Skipped, SkippingDecoder};
+use cqlp::{Event, Fed, Finish, Limits, NotSkippable, Reason, Refusal, Sink, SinkFault, Skipped, SkippingDecoder};
 
 /// The places of the headers, and how many other events there were.
 #[derive(Default)]
@@ -26,7 +26,7 @@ const REFUSAL: Refusal = Refusal { at: 18, why: Reason::BadUtf8 };
 
 /// Reads the stream in pieces of this many bytes, and passes over what is refused.
 fn read(most: usize) -> (Told, Vec<Skipped>, Finish) {
-    let (mut decoder, mut told, mut skipped) = (SkippingDecoder::new(Global, Limits::DEFAULT).unwrap(), Told::default(), Vec::new());
+    let (mut decoder, mut told, mut skipped) = (SkippingDecoder::new(Limits::DEFAULT).unwrap(), Told::default(), Vec::new());
     for piece in STREAM.chunks(most) {
         let mut rest = piece;
         loop {
@@ -57,7 +57,7 @@ fn in_pieces_of_each_length() {
 
 #[test]
 fn nothing_to_pass_over() {
-    let mut decoder = SkippingDecoder::new(Global, Limits::DEFAULT).unwrap();
+    let mut decoder = SkippingDecoder::new(Limits::DEFAULT).unwrap();
     assert_eq!(decoder.skip(), Err(NotSkippable::NotRefused));
     let (fed, _) = decoder.feed(b"\x05\0\0\0\x05\0\0\0\0", Told::default());
     assert!(matches!(fed, Fed::Refused { .. }));

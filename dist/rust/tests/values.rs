@@ -7,9 +7,8 @@ use crate::common::{Numbers, count};
 use cqlp::frame::{
     Frame, Message, Metadata, PageWriter, ReadError, Rows, Spec, TypeTree, Value, encode, fits, read_value, value_size, write_value,
 };
-use cqlp::memory::Box;
 use cqlp::text::render_rows;
-use cqlp::{Decoder, Finish, Global, Kind, Limits, Node, OfStd, Outcome, Reason, Refusal, TypeTable, table_of, table_of_specs};
+use cqlp::{Decoder, Finish, Kind, Limits, Node, OfStd, Outcome, Reason, Refusal, TypeTable, table_of, table_of_specs};
 use std::slice::from_ref;
 
 const PLAIN: [Kind; 19] = [
@@ -36,17 +35,17 @@ const PLAIN: [Kind; 19] = [
 
 /// A type of at most this many levels around a plain one.
 fn tree(numbers: &mut Numbers, levels: usize) -> TypeTree {
-    let boxed = |numbers: &mut Numbers| Box::new(Global, tree(numbers, levels - 1)).unwrap();
+    let boxed = |numbers: &mut Numbers| Box::new(tree(numbers, levels - 1));
     match if levels == 0 { 0 } else { numbers.below(7) } {
-        1 => TypeTree::Custom("org.example.Type".to_string().into()),
+        1 => TypeTree::Custom("org.example.Type".to_string()),
         2 => TypeTree::List(boxed(numbers)),
         3 => TypeTree::Set(boxed(numbers)),
         4 => TypeTree::Map(boxed(numbers), boxed(numbers)),
-        5 => TypeTree::Tuple((0..1 + numbers.below(3)).map(|_| tree(numbers, levels - 1)).collect::<Vec<_>>().into()),
+        5 => TypeTree::Tuple((0..1 + numbers.below(3)).map(|_| tree(numbers, levels - 1)).collect::<Vec<_>>()),
         6 => TypeTree::Udt {
-            keyspace: "shop".to_string().into(),
-            name: "item".to_string().into(),
-            fields: (0..1 + numbers.below(3)).map(|i| (format!("f{i}").into(), tree(numbers, levels - 1))).collect::<Vec<_>>().into(),
+            keyspace: "shop".to_string(),
+            name: "item".to_string(),
+            fields: (0..1 + numbers.below(3)).map(|i| (format!("f{i}"), tree(numbers, levels - 1))).collect::<Vec<_>>(),
         },
         _ => TypeTree::Plain(numbers.one_of(&PLAIN)),
     }
@@ -109,10 +108,10 @@ fn change(numbers: &mut Numbers, bytes: &mut Vec<u8>) {
 
 /// A page of one row and one column of this type, still without its cell.
 fn page(tree: TypeTree) -> Frame {
-    let text = |text: &str| text.to_string().into();
+    let text = |text: &str| text.to_string();
     let column = Spec { table: None, name: text("c"), tree };
     let table = Some((text("k"), text("t")));
-    with_metadata(Metadata { flags: 1, columns: 1, paging: None, table, specs: Some(vec![column].into()) })
+    with_metadata(Metadata { flags: 1, columns: 1, paging: None, table, specs: Some(vec![column]) })
 }
 
 /// The same with the flag No_metadata.
@@ -121,7 +120,7 @@ fn bare_page() -> Frame {
 }
 
 fn with_metadata(meta: Metadata) -> Frame {
-    Frame::plain(7, Message::Rows(Rows { meta, rows: 1, cells: Vec::new().into() }))
+    Frame::plain(7, Message::Rows(Rows { meta, rows: 1, cells: Vec::new() }))
 }
 
 fn rows(page: &mut Frame) -> &mut Rows {
@@ -145,7 +144,7 @@ fn with_bytes(page: &Frame, cell: &[u8]) -> (Vec<u8>, u64) {
 
 /// How a decoder that was given these types ends over a page, the text of the row, and the types of the metadata.
 fn read_page(stream: &[u8], given: Option<TypeTable>) -> (Finish, Vec<u8>, TypeTable) {
-    let mut decoder = Decoder::new(Global, Limits::DEFAULT).unwrap();
+    let mut decoder = Decoder::new(Limits::DEFAULT).unwrap();
     if let Some(table) = given {
         assert!(matches!(decoder.give(table), Ok(None)));
     }
@@ -173,14 +172,14 @@ fn write_again(value: Value, page: &mut Frame, len: usize) -> Vec<u8> {
     assert_eq!(value_size(&value), len as u64);
     let mut alone = OfStd::new(Vec::new());
     assert_eq!(write_value(&value, Some(column(page)), &mut alone), Ok(len as u32));
-    assert_eq!(read_value(Global, &Limits::DEFAULT, Some(column(page)), &alone.into_inner()).as_ref(), Ok(&value));
+    assert_eq!(read_value(&Limits::DEFAULT, Some(column(page)), &alone.into_inner()).as_ref(), Ok(&value));
 
     let mut by_cell = OfStd::new(Vec::new());
     let mut writer = PageWriter::begin(page, len as u32, &mut by_cell).unwrap();
     writer.cell(&value, &mut by_cell).unwrap();
     writer.finish().unwrap();
     let mut whole = OfStd::new(Vec::new());
-    rows(page).cells = vec![value].into();
+    rows(page).cells = vec![value];
     encode(page, &mut whole).unwrap();
     let whole = whole.into_inner();
     assert_eq!(by_cell.into_inner(), whole);
@@ -194,7 +193,7 @@ fn mutated_values() {
         let mut page = page(tree(&mut numbers, 3));
         let mut bytes = cell(&mut numbers, column(&mut page));
         change(&mut numbers, &mut bytes);
-        let value = read_value(Global, &Limits::DEFAULT, Some(column(&mut page)), &bytes);
+        let value = read_value(&Limits::DEFAULT, Some(column(&mut page)), &bytes);
         let about = format!("case {case}: {bytes:02x?} {value:?}");
 
         let (stream, head) = with_bytes(&page, &bytes);
@@ -214,9 +213,9 @@ fn mutated_values() {
         assert_eq!(finish, ending(refused, head, &bytes), "{about}");
 
         let (stream, head) = with_bytes(&bare_page(), &bytes);
-        let given = table_of(Global, from_ref(column(&mut page))).unwrap();
+        let given = table_of(from_ref(column(&mut page))).unwrap();
         assert_eq!(nodes(&given), nodes(&table), "{about}");
-        let given = table_of_specs(Global, rows(&mut page).meta.specs.as_ref().unwrap()).unwrap();
+        let given = table_of_specs(rows(&mut page).meta.specs.as_ref().unwrap()).unwrap();
         assert_eq!(nodes(&given), nodes(&table), "{about}");
         let by_given = read_page(&stream, Some(given));
         assert_eq!((by_given.0, by_given.1), (ending(refused, head, &bytes), row), "{about}");

@@ -11,9 +11,9 @@ use cqlp::frame::{Frame, Message, Metadata, QueryParams, Spec, Value, encode};
 use cqlp::rows::{BindFault, RowError, RowSink, page_rows};
 use cqlp::session::{BeginError, RequestKind, Stray};
 use cqlp::wire::{
-    AnyHeader, Arrival, CellPlace, ClientSide, FrameReader, Heard, Inbox, KeepError, Outbox, PageTrack, ServerSide, TextAlterer, WireError,
+    AnyHeader, Arrival, CellPlace, ClientSide, FrameReader, Inbox, KeepError, Outbox, PageTrack, Response, ServerSide, TextAlterer, WireError,
 };
-use cqlp::{Consistency, Decoder, ErrorCode, Event, Global, Header, Kind, Limits, OfStd, Reason, Step, Target, bind};
+use cqlp::{Consistency, Decoder, ErrorCode, Event, Header, Kind, Limits, OfStd, Reason, Step, Target, bind};
 use std::error::Error;
 use std::io::{self, ErrorKind, Read, Write};
 use std::net::{Ipv4Addr, TcpListener};
@@ -122,7 +122,7 @@ fn a_client_hears_its_replies() {
             client.inbox().push(piece).unwrap();
             while let Some(one) = client.hear().unwrap() {
                 match one {
-                    Heard::Reply { carried, kind, header } => {
+                    Response::Reply { carried, kind, header } => {
                         assert_eq!((kind, client.frame().len()), (RequestKind::Query, header.length as usize + 9));
                         heard.push((carried, page_rows::<(i32, String)>(client.frame()).unwrap().count()));
                     }
@@ -139,7 +139,7 @@ fn ready_client() -> ClientSide<&'static str> {
     let mut client = ClientSide::new(4).unwrap();
     client.ask(Message::startup(), "startup").unwrap();
     client.inbox().push(&Frame::plain(0, Message::Ready).to_bytes().unwrap()).unwrap();
-    assert!(matches!(client.hear(), Ok(Some(Heard::Reply { carried: "startup", .. }))));
+    assert!(matches!(client.hear(), Ok(Some(Response::Reply { carried: "startup", .. }))));
     let count = client.outbox().bytes().len();
     client.outbox().sent(count);
     client
@@ -191,8 +191,8 @@ fn a_client_hears_rows_as_they_come() {
         let mut client = ready_client();
         client.ask(Message::query("bare", one()), "bare").unwrap();
         client.ask(Message::query("error", one()), "error").unwrap();
-        let mut decoder = Decoder::new(Global, Limits::DEFAULT).unwrap();
-        decoder.give(cqlp::table_of_specs(Global, &columns()).unwrap()).unwrap();
+        let mut decoder = Decoder::new(Limits::DEFAULT).unwrap();
+        decoder.give(cqlp::table_of_specs(&columns()).unwrap()).unwrap();
         let mut came = Vec::new();
         let mut sink = RowSink::new(|row: (i32, String)| {
             came.push(row);
@@ -260,7 +260,7 @@ fn a_server_says_why_it_refuses() {
         let error = FrameReader::new().unwrap().read(server.outbox().bytes()).unwrap();
         let Message::Error { code, message, .. } = error.message else { panic!("no ERROR") };
         assert_eq!(code, 10);
-        (error.stream, message.into_std(), why)
+        (error.stream, message, why)
     };
     let (stream, text, _) = refused(&[5, 0, 0, 7, 5, 0, 0, 0, 0]);
     assert!(stream == 7 && text.contains("the greatest is 4"));
@@ -305,9 +305,9 @@ fn texts_are_altered() {
 #[test]
 fn a_page_is_tracked() {
     let list = Spec::new("tags", cqlp::frame::TypeTree::list(Kind::Varchar));
-    let cells = vec![Value::List(vec![Value::from("x"), Value::from("y")].into()), Value::from(1), Value::Null, Value::from(2)];
+    let cells = vec![Value::List(vec![Value::from("x"), Value::from("y")]), Value::from(1), Value::Null, Value::from(2)];
     let frames = [Frame::plain(1, Message::rows("ks", "t", vec![list, Spec::new("id", Kind::Int)], cells)), page(2, &["a"])];
-    let (bytes, mut decoder, mut track) = (bytes_of(&frames), Decoder::new(Global, Limits::DEFAULT).unwrap(), PageTrack::default());
+    let (bytes, mut decoder, mut track) = (bytes_of(&frames), Decoder::new(Limits::DEFAULT).unwrap(), PageTrack::default());
     let (mut rest, mut seen, mut places) = (&bytes[..], Vec::new(), Vec::new());
     while let Step::Event { used, event, .. } = decoder.next(rest) {
         rest = &rest[used..];

@@ -1,8 +1,8 @@
 //! What clap uses of `strsim`: the similarity of two texts after Jaro, from 0 to 1.
-use crate::kit_std::alloc::{AllocError, Global};
+use crate::kit_std::alloc::AllocError;
 use std::collections::VecDeque as List;
 
-pub fn jaro(_: Global, a: &str, b: &str) -> Result<f64, AllocError> {
+pub fn jaro(a: &str, b: &str) -> Result<f64, AllocError> {
     let (a, b): (List<char>, List<char>) = (a.chars().collect(), b.chars().collect());
     if a.is_empty() && b.is_empty() {
         return Ok(1.0);

@@ -1,20 +1,4 @@
-//! Where memory comes from. There is one allocator, [`Global`], and what borrows it.
-
-mod sealed {
-    pub trait Sealed {}
-    impl Sealed for super::Global {}
-    impl<A: super::Allocator> Sealed for &A {}
-}
-
-/// Where memory comes from: [`Global`], or what borrows it. No other type can be one.
-pub trait Allocator: sealed::Sealed {}
-
-/// Rust's global allocator.
-#[derive(Clone, Copy, Debug, Default, PartialEq, Eq, PartialOrd, Ord)]
-pub struct Global;
-
-impl Allocator for Global {}
-impl<A: Allocator> Allocator for &A {}
+//! Memory that is refused.
 
 error! {
 /// Memory was refused.

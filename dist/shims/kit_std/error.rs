@@ -13,7 +13,7 @@ macro_rules! error {
     };
     ($(#[doc = $doc:literal])* #[derive($($derived:ident),*)] pub enum $name:ident { $(
         $(#[doc = $about:literal])* #[error($said:tt)]
-        $variant:ident $(( $(#[$from:ident $(($how:ident))?])? $of:ty ))? $({ $($(#[doc = $what:literal])* $field:ident: $kind:ty),* $(,)? })?,
+        $variant:ident $(( $(#[$from:ident $(($how:ident))?])? $of:ident ))? $({ $($(#[doc = $what:literal])* $field:ident: $kind:ty),* $(,)? })?,
     )* }) => {
         $(#[doc = $doc])* #[derive($($derived),*)] pub enum $name {
             $($(#[doc = $about])* $variant $(($of))? $({ $($(#[doc = $what])* $field: $kind),* })?,)*
@@ -47,6 +47,7 @@ macro_rules! error {
             }
         }
     };
+    (@source "{0}", $part:ident, String) => {{ let _ = $part; None }};
     (@source "{0}", $part:ident, $of:ty) => { Some($part) };
     (@source transparent, $part:ident, $of:ty) => { Some($part) };
     (@source $said:tt $(, $part:ident, $of:ty)?) => {{ $(let _ = $part;)? None }};

@@ -1,71 +1,39 @@
-//! `String`, whose memory may be refused.
-use super::alloc::{AllocError, Allocator, Global};
+//! The kit's calls of `String`, whose memory may be refused.
+use super::alloc::AllocError;
+pub use ::alloc::string::String;
 use core::fmt;
 
-/// Rust's `String`, but that what needs memory may be refused. One of Rust's becomes one by `into()`, and again by [`String::into_std`].
-#[derive(PartialEq, Eq)]
-pub struct String<A: Allocator = Global> {
-    pub(crate) text: ::alloc::string::String,
-    pub(crate) alloc: A,
+pub trait KitString: Sized {
+    /// A copy of a text.
+    fn from_str(text: &str) -> Result<Self, AllocError>;
 }
 
-impl<A: Allocator> String<A> {
-    /// With no text and no memory.
-    pub fn new(alloc: A) -> Self {
-        String { text: ::alloc::string::String::new(), alloc }
-    }
-
-    /// A copy of a text.
-    ///
-    /// # Errors
-    ///
-    /// Memory that is refused.
-    pub fn from_str(alloc: A, text: &str) -> Result<Self, AllocError> {
-        let mut made = ::alloc::string::String::new();
+impl KitString for String {
+    #[inline]
+    fn from_str(text: &str) -> Result<Self, AllocError> {
+        let mut made = String::new();
         made.try_reserve_exact(text.len()).map_err(|_| AllocError)?;
         made.push_str(text);
-        Ok(String { text: made, alloc })
-    }
-
-    /// As Rust's own. It takes no memory.
-    pub fn into_std(self) -> ::alloc::string::String {
-        self.text
-    }
-
-    /// Its text.
-    pub fn as_str(&self) -> &str {
-        &self.text
+        Ok(made)
     }
 }
 
-shown_as_target!(Display for String<>);
-shown_as_target!(Debug for String<>);
+/// A text that grows, and asks for the memory of each part.
+pub struct Asking<'a>(pub &'a mut String);
 
-impl<A: Allocator> fmt::Write for String<A> {
+impl fmt::Write for Asking<'_> {
+    #[inline]
     fn write_str(&mut self, text: &str) -> fmt::Result {
-        self.text.try_reserve(text.len()).map(|()| self.text.push_str(text)).map_err(|_| fmt::Error)
-    }
-}
-
-impl From<::alloc::string::String> for String {
-    fn from(text: ::alloc::string::String) -> Self {
-        String { text, alloc: Global }
-    }
-}
-
-impl<A: Allocator> core::ops::Deref for String<A> {
-    type Target = str;
-
-    fn deref(&self) -> &str {
-        &self.text
+        self.0.try_reserve(text.len()).map(|()| self.0.push_str(text)).map_err(|_| fmt::Error)
     }
 }
 
 /// `format!`, whose memory may be refused.
 macro_rules! format {
-    (in $alloc:expr; $($said:tt)*) => {{
-        let mut made = $crate::kit_std::string::String { text: Default::default(), alloc: $alloc };
-        core::fmt::write(&mut made, format_args!($($said)*)).map(|()| made).map_err(|_| $crate::kit_std::alloc::AllocError)
+    ($($said:tt)*) => {{
+        let mut made = $crate::kit_std::string::String::new();
+        let written = core::fmt::write(&mut $crate::kit_std::string::Asking(&mut made), format_args!($($said)*));
+        written.map(|()| made).map_err(|_| $crate::kit_std::alloc::AllocError)
     }};
 }
 pub(crate) use format;

@@ -2,7 +2,7 @@
 
 use super::observer::Seen;
 use cqlp::text::opcode_name;
-use cqlp::watch::{Extent, Message, Paired};
+use cqlp::watch::{Extent, Paired, SeenMessage};
 use cqlp::{Opcode, result_kind};
 use std::fmt;
 
@@ -32,11 +32,11 @@ impl fmt::Display for Line<'_> {
 }
 
 /// A request: its opcode, the first words of its statement, and its bytes.
-struct Asked<'a>(&'a Message<Seen>);
+struct Asked<'a>(&'a SeenMessage<Seen>);
 
 impl fmt::Display for Asked<'_> {
     fn fmt(&self, f: &mut fmt::Formatter<'_>) -> fmt::Result {
-        let Message { frame, kept } = self.0;
+        let SeenMessage { frame, kept } = self.0;
         f.write_str(opcode_name(frame.header.opcode))?;
         if let Some((statement, is_whole)) = kept.words.statement() {
             let dots = if is_whole { "" } else { ".." };
@@ -47,11 +47,11 @@ impl fmt::Display for Asked<'_> {
 }
 
 /// A response: its opcode, the kind of a RESULT with the rows and columns of a page, or the code of an ERROR, and its bytes.
-struct Replied<'a>(&'a Message<Seen>);
+struct Replied<'a>(&'a SeenMessage<Seen>);
 
 impl fmt::Display for Replied<'_> {
     fn fmt(&self, f: &mut fmt::Formatter<'_>) -> fmt::Result {
-        let Message { frame, kept } = self.0;
+        let SeenMessage { frame, kept } = self.0;
         f.write_str(opcode_name(frame.header.opcode))?;
         if let (Opcode::Result, Some(kind)) = (frame.header.opcode, kept.facts.result) {
             f.write_str(" ")?;
@@ -80,7 +80,7 @@ fn put_kind(f: &mut fmt::Formatter<'_>, kind: u32) -> fmt::Result {
 }
 
 /// How many bytes the frame has, and whether some of them did not come.
-fn put_length(f: &mut fmt::Formatter<'_>, message: &Message<Seen>) -> fmt::Result {
+fn put_length(f: &mut fmt::Formatter<'_>, message: &SeenMessage<Seen>) -> fmt::Result {
     let cut = if message.frame.extent == Extent::Whole { "" } else { " cut" };
     write!(f, " {}{cut}", 9 + u64::from(message.frame.header.length))
 }

@@ -51,7 +51,7 @@ impl Node {
             Message::Startup(_) | Message::Register(_) => frame(Message::Ready),
             Message::Query { text, params } => self.query(&text, &params, stream),
             Message::Prepare(text) => self.prepare(&text).and_then(frame),
-            Message::Execute { id, params } => self.execute(id.into_std(), &params, stream),
+            Message::Execute { id, params } => self.execute(id, &params, stream),
             Message::Batch { entries, .. } => Ok(Reply::Frame(batch(entries.len(), stream))),
             _ => Err(Problem::protocol("a request that has no answer here")),
         };
@@ -60,7 +60,7 @@ impl Node {
 
     fn query(&self, text: &str, params: &QueryParams, stream: i16) -> Result<Reply<'_>, Problem> {
         match Statement::parse(text, &self.tables)? {
-            Statement::Use(keyspace) => Ok(Reply::Frame(Frame::plain(stream, Message::SetKeyspace(keyspace.into())))),
+            Statement::Use(keyspace) => Ok(Reply::Frame(Frame::plain(stream, Message::SetKeyspace(keyspace)))),
             Statement::Select(select) => page(select, params, stream, Columns::Described),
         }
     }
@@ -91,16 +91,16 @@ fn page<'a>(mut select: Select<'a>, params: &QueryParams, stream: i16, columns: 
 
 fn supported() -> Message {
     let options = OPTIONS.map(|(name, values)| {
-        let values: Vec<_> = values.iter().map(|value| value.to_string().into()).collect();
-        (name.to_string().into(), values.into())
+        let values: Vec<_> = values.iter().map(|value| value.to_string()).collect();
+        (name.to_string(), values)
     });
-    Message::Supported(Vec::from(options).into())
+    Message::Supported(Vec::from(options))
 }
 
 /// The answer to a BATCH of this many statements, with a warning.
 fn batch(statements: usize, stream: i16) -> Frame {
     let warning = format!("statements that changed nothing: {statements}");
-    let mut frame = Frame { warnings: Some(vec![warning.into()].into()), ..Frame::plain(stream, Message::Void) };
+    let mut frame = Frame { warnings: Some(vec![warning]), ..Frame::plain(stream, Message::Void) };
     frame.flags = frame.derived_flags();
     frame
 }
@@ -113,12 +113,12 @@ fn prepared(text: &str, select: &Select) -> Result<Prepared, AllocError> {
         keys.extend((place == 0).then_some(0));
     }
     Ok(Prepared {
-        id: text.as_bytes().to_vec().into(),
+        id: text.as_bytes().to_vec(),
         flags: ONE_TABLE,
         columns: specs.len() as u32,
-        keys: keys.into(),
+        keys,
         table: Some(full_name(select.table)),
-        specs: specs.into(),
+        specs,
         result: described(select)?,
     })
 }

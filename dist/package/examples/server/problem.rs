@@ -41,7 +41,7 @@ impl From<AllocError> for Problem {
 
 impl From<Problem> for Message {
     fn from(Problem { code, text, id }: Problem) -> Message {
-        let extra = id.map_or(ErrorExtra::Plain, |id| ErrorExtra::Unprepared { id: id.into() });
-        Message::Error { code, message: text.into(), extra }
+        let extra = id.map_or(ErrorExtra::Plain, |id| ErrorExtra::Unprepared { id });
+        Message::Error { code, message: text, extra }
     }
 }

@@ -2,8 +2,8 @@
 
 use super::problem::Problem;
 use cqlp::frame::{Atom, Spec, TypeTree, Value, read_value};
-use cqlp::memory::{AllocError, Box};
-use cqlp::{Global, Kind, Limits};
+use cqlp::memory::{AllocError, try_box};
+use cqlp::{Kind, Limits};
 
 /// The type of a column.
 #[derive(Clone, Copy, Debug, PartialEq, Eq)]
@@ -19,7 +19,7 @@ impl Type {
 
     /// The type as a tree, by which the library reads and writes values.
     fn tree(self) -> Result<TypeTree, AllocError> {
-        let inner = |kind| Box::new(Global, TypeTree::Plain(kind));
+        let inner = |kind| try_box(TypeTree::Plain(kind));
         Ok(match self {
             Type::Plain(kind) => TypeTree::Plain(kind),
             Type::List(kind) => TypeTree::List(inner(kind)?),
@@ -38,14 +38,14 @@ pub struct Column {
 impl Column {
     /// What replies say of the column.
     pub fn spec(&self) -> Result<Spec, AllocError> {
-        Ok(Spec { table: None, name: self.name.clone().into(), tree: self.of.tree()? })
+        Ok(Spec { table: None, name: self.name.clone(), tree: self.of.tree()? })
     }
 
     /// The value of the column with this content.
     pub fn read(&self, content: &[u8]) -> Option<Value> {
         let len = u32::try_from(content.len()).ok()?;
         let cell = [&len.to_be_bytes()[..], content].concat();
-        read_value(Global, &Limits::DEFAULT, Some(&self.tree), &cell).ok()
+        read_value(&Limits::DEFAULT, Some(&self.tree), &cell).ok()
     }
 
     /// The value of the column that a literal is; only of ints and texts.
@@ -82,5 +82,5 @@ impl Table {
 
 /// A cell of a column of the type text.
 pub fn text(text: &str) -> Value {
-    Value::scalar(Atom::Varchar(text.to_string().into()))
+    Value::scalar(Atom::Varchar(text.to_string()))
 }

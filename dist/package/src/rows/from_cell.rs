@@ -239,11 +239,11 @@ fn value_of(items: LentItems<'_, '_>) -> Result<Value, Mismatch> {
         values.push(Value::from_cell(item)?);
     }
     Ok(match kind {
-        Kind::Map => Value::Map(pairs_of(values).into()),
-        Kind::Set => Value::Set(values.into()),
-        Kind::Tuple => Value::Tuple(values.into()),
-        Kind::Udt => Value::Udt(values.into()),
-        _ => Value::List(values.into()),
+        Kind::Map => Value::Map(pairs_of(values)),
+        Kind::Set => Value::Set(values),
+        Kind::Tuple => Value::Tuple(values),
+        Kind::Udt => Value::Udt(values),
+        _ => Value::List(values),
     })
 }
 
@@ -256,26 +256,26 @@ fn pairs_of(values: Vec<Value>) -> Vec<(Value, Value)> {
 /// A scalar, owned.
 fn atom_of(scalar: Scalar<'_>) -> Result<Atom, Mismatch> {
     Ok(match scalar {
-        Scalar::Custom(bytes) => Atom::Custom(copy_of(bytes)?.into()),
-        Scalar::Ascii(text) => Atom::Ascii(own(text)?.into()),
+        Scalar::Custom(bytes) => Atom::Custom(copy_of(bytes)?),
+        Scalar::Ascii(text) => Atom::Ascii(own(text)?),
         Scalar::Bigint(number) => Atom::Bigint(number),
-        Scalar::Blob(bytes) => Atom::Blob(copy_of(bytes)?.into()),
+        Scalar::Blob(bytes) => Atom::Blob(copy_of(bytes)?),
         Scalar::Boolean(truth) => Atom::Boolean(truth),
         Scalar::Counter(number) => Atom::Counter(number),
-        Scalar::Decimal { scale, unscaled } => Atom::Decimal { scale, unscaled: copy_of(unscaled)?.into() },
+        Scalar::Decimal { scale, unscaled } => Atom::Decimal { scale, unscaled: copy_of(unscaled)? },
         Scalar::Double(bytes) => Atom::Double(bytes),
         Scalar::Float(bytes) => Atom::Float(bytes),
         Scalar::Int(number) => Atom::Int(number),
         Scalar::Timestamp(number) => Atom::Timestamp(number),
         Scalar::Uuid(bytes) => Atom::Uuid(bytes),
-        Scalar::Varchar(text) => Atom::Varchar(own(text)?.into()),
-        Scalar::Varint(bytes) => Atom::Varint(copy_of(bytes)?.into()),
+        Scalar::Varchar(text) => Atom::Varchar(own(text)?),
+        Scalar::Varint(bytes) => Atom::Varint(copy_of(bytes)?),
         Scalar::Timeuuid(bytes) => Atom::Timeuuid(bytes),
         Scalar::Inet(address) => Atom::Inet(address),
         Scalar::Date(days) => Atom::Date(days),
         Scalar::Time(number) => Atom::Time(number),
         Scalar::Smallint(number) => Atom::Smallint(number),
         Scalar::Tinyint(number) => Atom::Tinyint(number),
-        Scalar::Raw(bytes) => Atom::Raw(copy_of(bytes)?.into()),
+        Scalar::Raw(bytes) => Atom::Raw(copy_of(bytes)?),
     })
 }

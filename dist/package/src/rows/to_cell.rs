@@ -13,7 +13,6 @@ use crate::cqlp_kind::Kind;
 use crate::cqlp_message::OwnedBound;
 use crate::cqlp_type::TypeTree;
 use crate::cqlp_value::{Atom, Value};
-use crate::kit_std::alloc::Global;
 use crate::rows::bind::Unbound;
 use crate::rows::newtypes::{Counter, Date, Decimal, Time, Timestamp, Timeuuid, Uuid, Varint};
 
@@ -48,7 +47,7 @@ pub trait ToCell {
     /// As [`ToCell::to_cell`]; and [`Unbound::Value`] where [`bind_value`] finds that the value is out of the range of the type, as a
     /// time past the end of a day, or too long, and where memory is refused.
     fn to_bound(&self, of: &TypeTree) -> Result<OwnedBound, Unbound> {
-        bind_value(Global, &self.to_cell(of)?, Some(of)).map_err(Unbound::Value)
+        bind_value(&self.to_cell(of)?, Some(of)).map_err(Unbound::Value)
     }
 }
 
@@ -91,15 +90,15 @@ scalars! {
     f32, self: Float => Atom::Float(self.to_be_bytes());
     f64, self: Double => Atom::Double(self.to_be_bytes());
     bool, self: Boolean => Atom::Boolean(*self);
-    str, self: Varchar => Atom::Varchar(self.to_owned().into()), Ascii => Atom::Ascii(self.to_owned().into());
+    str, self: Varchar => Atom::Varchar(self.to_owned()), Ascii => Atom::Ascii(self.to_owned());
     Counter, self: Counter => Atom::Counter(self.0);
     Date, self: Date => Atom::Date(self.0);
     Time, self: Time => Atom::Time(self.0);
     Timestamp, self: Timestamp => Atom::Timestamp(self.0);
     Uuid, self: Uuid => Atom::Uuid(self.0), Timeuuid => Atom::Timeuuid(self.0);
     Timeuuid, self: Timeuuid => Atom::Timeuuid(self.0), Uuid => Atom::Uuid(self.0);
-    Varint, self: Varint => Atom::Varint(self.0.clone().into());
-    Decimal, self: Decimal => Atom::Decimal { scale: self.scale, unscaled: self.unscaled.0.clone().into() };
+    Varint, self: Varint => Atom::Varint(self.0.clone());
+    Decimal, self: Decimal => Atom::Decimal { scale: self.scale, unscaled: self.unscaled.0.clone() };
 }
 
 impl ToCell for IpAddr {
@@ -133,8 +132,8 @@ impl ToCell for String {
 impl ToCell for [u8] {
     fn to_cell(&self, of: &TypeTree) -> Result<Value, Unbound> {
         match kind_of(of) {
-            Kind::Blob => Ok(Value::scalar(Atom::Blob(self.to_vec().into()))),
-            Kind::Custom => Ok(Value::scalar(Atom::Custom(self.to_vec().into()))),
+            Kind::Blob => Ok(Value::scalar(Atom::Blob(self.to_vec()))),
+            Kind::Custom => Ok(Value::scalar(Atom::Custom(self.to_vec()))),
             _ => Err(unlike("[u8]", of)),
         }
     }
@@ -194,8 +193,8 @@ impl ToCell for Unset {
 fn list_of<'a, T: ToCell + 'a>(items: impl Iterator<Item = &'a T>, of: &TypeTree, given: &'static str) -> Result<Value, Unbound> {
     let all = |inner| items.map(|item| item.to_cell(inner)).collect::<Result<Vec<_>, _>>();
     match of {
-        TypeTree::List(inner) => Ok(Value::List(all(inner)?.into())),
-        TypeTree::Set(inner) => Ok(Value::Set(all(inner)?.into())),
+        TypeTree::List(inner) => Ok(Value::List(all(inner)?)),
+        TypeTree::Set(inner) => Ok(Value::Set(all(inner)?)),
         _ => Err(unlike(given, of)),
     }
 }
@@ -210,7 +209,7 @@ fn map_of<'a, K: ToCell + 'a, V: ToCell + 'a>(
         return Err(unlike(given, of));
     };
     let pairs = pairs.map(|(key, value)| Ok((key.to_cell(keys)?, value.to_cell(values)?)));
-    Ok(Value::Map(pairs.collect::<Result<Vec<_>, _>>()?.into()))
+    Ok(Value::Map(pairs.collect::<Result<Vec<_>, _>>()?))
 }
 
 impl<T: ToCell> ToCell for [T] {
@@ -258,13 +257,13 @@ impl ToCell for Value {
     }
 
     fn to_bound(&self, of: &TypeTree) -> Result<OwnedBound, Unbound> {
-        bind_value(Global, self, Some(of)).map_err(Unbound::Value)
+        bind_value(self, Some(of)).map_err(Unbound::Value)
     }
 }
 
 /// The same value, with contents of its own.
 fn copy_of(value: &Value) -> Value {
-    let all = |items: &[Value]| items.iter().map(copy_of).collect::<Vec<_>>().into();
+    let all = |items: &[Value]| items.iter().map(copy_of).collect::<Vec<_>>();
     match value {
         Value::Null => Value::Null,
         Value::Empty => Value::Empty,
@@ -273,34 +272,34 @@ fn copy_of(value: &Value) -> Value {
         Value::Set(items) => Value::Set(all(items)),
         Value::Tuple(items) => Value::Tuple(all(items)),
         Value::Udt(items) => Value::Udt(all(items)),
-        Value::Map(pairs) => Value::Map(pairs.iter().map(|(key, value)| (copy_of(key), copy_of(value))).collect::<Vec<_>>().into()),
+        Value::Map(pairs) => Value::Map(pairs.iter().map(|(key, value)| (copy_of(key), copy_of(value))).collect::<Vec<_>>()),
     }
 }
 
 /// The same scalar, with bytes of its own.
 fn copy_of_atom(atom: &Atom) -> Atom {
     match atom {
-        Atom::Custom(bytes) => Atom::Custom(bytes.to_vec().into()),
-        Atom::Ascii(text) => Atom::Ascii(text.as_str().to_owned().into()),
+        Atom::Custom(bytes) => Atom::Custom(bytes.to_vec()),
+        Atom::Ascii(text) => Atom::Ascii(text.as_str().to_owned()),
         Atom::Bigint(number) => Atom::Bigint(*number),
-        Atom::Blob(bytes) => Atom::Blob(bytes.to_vec().into()),
+        Atom::Blob(bytes) => Atom::Blob(bytes.to_vec()),
         Atom::Boolean(truth) => Atom::Boolean(*truth),
         Atom::Counter(number) => Atom::Counter(*number),
-        Atom::Decimal { scale, unscaled } => Atom::Decimal { scale: *scale, unscaled: unscaled.to_vec().into() },
+        Atom::Decimal { scale, unscaled } => Atom::Decimal { scale: *scale, unscaled: unscaled.to_vec() },
         Atom::Double(bytes) => Atom::Double(*bytes),
         Atom::Float(bytes) => Atom::Float(*bytes),
         Atom::Int(number) => Atom::Int(*number),
         Atom::Timestamp(number) => Atom::Timestamp(*number),
         Atom::Uuid(bytes) => Atom::Uuid(*bytes),
-        Atom::Varchar(text) => Atom::Varchar(text.as_str().to_owned().into()),
-        Atom::Varint(bytes) => Atom::Varint(bytes.to_vec().into()),
+        Atom::Varchar(text) => Atom::Varchar(text.as_str().to_owned()),
+        Atom::Varint(bytes) => Atom::Varint(bytes.to_vec()),
         Atom::Timeuuid(bytes) => Atom::Timeuuid(*bytes),
         Atom::Inet(address) => Atom::Inet(*address),
         Atom::Date(days) => Atom::Date(*days),
         Atom::Time(number) => Atom::Time(*number),
         Atom::Smallint(number) => Atom::Smallint(*number),
         Atom::Tinyint(number) => Atom::Tinyint(*number),
-        Atom::Raw(bytes) => Atom::Raw(bytes.to_vec().into()),
+        Atom::Raw(bytes) => Atom::Raw(bytes.to_vec()),
     }
 }
 

@@ -8,7 +8,7 @@ use std::io::{self, Read, Write};
 ///
 /// ```
 /// use cqlp::wire::KeepError;
-/// use cqlp::{Decoder, Event, Global, Limits, OfStd, Outcome, Sink, SinkFault, run};
+/// use cqlp::{Decoder, Event, Limits, OfStd, Outcome, Sink, SinkFault, run};
 /// use std::io::{self, ErrorKind, Read};
 ///
 /// struct Broken;
@@ -27,7 +27,7 @@ use std::io::{self, Read, Write};
 ///     }
 /// }
 ///
-/// let (mut decoder, mut source) = (Decoder::new(Global, Limits::DEFAULT)?, OfStd::new(KeepError::new(Broken)));
+/// let (mut decoder, mut source) = (Decoder::new(Limits::DEFAULT)?, OfStd::new(KeepError::new(Broken)));
 /// assert!(matches!(run(&mut decoder, &mut source, &mut Nothing, 1), Outcome::ReadFault { .. }));
 /// assert_eq!(source.inner.take_error().unwrap().to_string(), "the peer is gone");
 /// # Ok::<(), cqlp::NewError>(())

@@ -10,7 +10,6 @@ use crate::cqlp_encode::encode;
 use crate::cqlp_message::Unfit;
 use crate::cqlp_message::{Frame, Message, Spec};
 use crate::cqlp_session::Server;
-use crate::kit_std::alloc::Global;
 use crate::names::ErrorCode;
 use crate::rows::RowWriter;
 #[cfg(feature = "std")]
@@ -58,7 +57,7 @@ impl ServerSide {
     /// Memory that is refused.
     pub fn new(longest: u32) -> Result<ServerSide, WireError> {
         const SLOTS: u16 = 32_768;
-        let (core, reader) = (Server::new(Global, SLOTS)?, FrameReader::new()?);
+        let (core, reader) = (Server::new(SLOTS)?, FrameReader::new()?);
         Ok(ServerSide { core, reader, inbox: Inbox::new(longest), outbox: Outbox::default() })
     }
 

@@ -6,7 +6,7 @@ pub mod cores;
 
 use crate::digits::bytes_of;
 use cqlp::text::{Ending, ending_line, event_line};
-use cqlp::{Decoder, Finish, Global, Limits, OfStd, Step};
+use cqlp::{Decoder, Finish, Limits, OfStd, Step};
 
 /// A stream of streams.txt, and what is said of it.
 pub struct Stream {
@@ -42,7 +42,7 @@ fn begun(words: &str) -> Stream {
 
 /// The lines of the events of these pieces, and of the verdict.
 pub fn said<'a>(limits: Limits, pieces: impl IntoIterator<Item = &'a [u8]>) -> String {
-    let mut decoder = Decoder::new(Global, limits).unwrap();
+    let mut decoder = Decoder::new(limits).unwrap();
     let mut lines = OfStd::new(Vec::new());
     for piece in pieces {
         if !add(&mut decoder, piece, &mut lines) {

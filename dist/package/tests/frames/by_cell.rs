@@ -5,7 +5,6 @@ use super::words::{FromWords, Words, all_of};
 use super::written::digits_line;
 use cqlp::OfSocket;
 use cqlp::frame::{Frame, PageError, PageWriter, TypeTree, Value, encode_rows};
-use cqlp::memory::Vec;
 
 /// How often a page is gone on with at most.
 const STOPS: usize = 1_000;

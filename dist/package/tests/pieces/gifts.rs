@@ -2,7 +2,7 @@
 
 use super::memory::without_memory;
 use crate::digits::bytes_of;
-use cqlp::{Decoder, Global, Limits, Step, TypeTable};
+use cqlp::{Decoder, Limits, Step, TypeTable};
 
 /// The limits within which the metadata of a table that is given is read.
 const LIMITS: Limits = Limits { text: 64, cell: 64, entries: 64, depth: 64, types: true, parts: false };
@@ -10,7 +10,7 @@ const LIMITS: Limits = Limits { text: 64, cell: 64, entries: 64, depth: 64, type
 /// The types of the last metadata of a stream, as far as it goes.
 pub fn table(digits: &str) -> TypeTable {
     let stream = bytes_of(digits);
-    let (mut decoder, mut rest) = (Decoder::new(Global, LIMITS).unwrap(), &stream[..]);
+    let (mut decoder, mut rest) = (Decoder::new(LIMITS).unwrap(), &stream[..]);
     while let Step::Event { used, .. } = decoder.next(rest) {
         rest = &rest[used..];
     }

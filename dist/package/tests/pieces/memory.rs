@@ -1,7 +1,7 @@
 //! The memory of a thread: a call may be granted so many bytes, or none.
 
 use crate::memory::{asked, granted};
-use cqlp::{Decoder, Global, Limits};
+use cqlp::{Decoder, Limits};
 
 /// What a call answers that is granted no memory, and asks for none.
 pub fn without_memory<T>(call: impl FnOnce() -> T) -> T {
@@ -18,7 +18,7 @@ pub fn amply<T>(call: impl FnOnce() -> T) -> T {
 
 /// How a decoder is made in memory of 0 bytes, of 16 more, and so on; where that is as before, nothing.
 pub fn answers(limits: Limits) -> String {
-    let mut answers: Vec<_> = (0..200).map(|blocks| granted(16 * blocks, || Decoder::new(Global, limits).map(drop))).collect();
+    let mut answers: Vec<_> = (0..200).map(|blocks| granted(16 * blocks, || Decoder::new(limits).map(drop))).collect();
     answers.dedup();
     answers.iter().map(|answer| format!("{answer:?}\n")).collect()
 }

@@ -3,7 +3,7 @@
 use super::gifts;
 use super::memory::without_memory;
 use super::script::{Script, Shows};
-use cqlp::{Decoder, Event, Global, Step};
+use cqlp::{Decoder, Event, Step};
 use std::fmt::Write;
 
 /// A decoder, and what it has said: a line for each event, with the offsets where it begins and where the bytes used end.
@@ -19,7 +19,7 @@ impl Reading {
     /// Of a decoder that was made, and was given the types that the script names.
     pub fn new(script: &Script) -> Reading {
         let make = if script.lenient { Decoder::lenient } else { Decoder::new };
-        let mut decoder = make(Global, script.limits).unwrap();
+        let mut decoder = make(script.limits).unwrap();
         if let Some(digits) = script.given {
             let table = gifts::table(digits);
             let _ = without_memory(|| decoder.give(table));

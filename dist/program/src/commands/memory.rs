@@ -6,7 +6,6 @@ use crate::cqlp_render_skip::{check_skipping, show_skipping};
 use crate::cqlp_text::PagePlace;
 use crate::cqlp_tool::{TextForm, check, rows, show};
 use crate::heap::{measured, within};
-use crate::kit_std::alloc::Global;
 use std::cell::Cell;
 
 const LIMITS: Limits = Limits { text: 64, cell: 64, entries: 8, depth: 3, types: true, parts: false };
@@ -33,18 +32,18 @@ fn said_within(room: usize, task: &str, bytes: &[u8]) -> String {
 
 fn task_done(task: &str, input: &mut Pieces<'_>, out: Narrow, err: Narrow) -> (u8, Narrow, Narrow) {
     match task {
-        "show" => show(&Global, LIMITS, input, out, err),
-        "show --skip" => show_skipping(&Global, LIMITS, false, TextForm::Lines, input, out, err),
-        "rows" => rows(&Global, LIMITS, input, out, err),
-        "rows --skip" => show_skipping(&Global, LIMITS, false, TextForm::Pages(PagePlace::new()), input, out, err),
-        "check" => check(&Global, LIMITS, false, input, out, err),
-        "check --skip" => check_skipping(&Global, LIMITS, false, input, out, err),
+        "show" => show(LIMITS, input, out, err),
+        "show --skip" => show_skipping(LIMITS, false, TextForm::Lines, input, out, err),
+        "rows" => rows(LIMITS, input, out, err),
+        "rows --skip" => show_skipping(LIMITS, false, TextForm::Pages(PagePlace::new()), input, out, err),
+        "check" => check(LIMITS, false, input, out, err),
+        "check --skip" => check_skipping(LIMITS, false, input, out, err),
         _ => panic!("{task} is no task"),
     }
 }
 
 fn writes(bytes: &[u8]) -> String {
-    let count = |size| show(&Global, LIMITS, &mut Pieces::new(bytes, [size; 3]), Calls(0), Calls(0)).1.0;
+    let count = |size| show(LIMITS, &mut Pieces::new(bytes, [size; 3]), Calls(0), Calls(0)).1.0;
     format!("{} writes\n{} writes\n", count(SIZE), count(usize::MAX))
 }
 
@@ -52,14 +51,14 @@ fn writes(bytes: &[u8]) -> String {
 fn early_reads(bytes: &[u8]) -> String {
     let text_of = |piece: usize| {
         let mut input = Pieces::new(&bytes[..bytes.len().min(SIZE * piece)], [SIZE; 3]);
-        show(&Global, LIMITS, &mut input, Narrow::new(usize::MAX, usize::MAX), Calls(0)).1.text.len()
+        show(LIMITS, &mut input, Narrow::new(usize::MAX, usize::MAX), Calls(0)).1.text.len()
     };
     let wanted: Vec<usize> = (0..=bytes.len().div_ceil(SIZE)).map(text_of).collect();
     let out = Cell::new(0);
     let mut looks = Looks { pieces: Pieces::new(bytes, [SIZE; 3]), out: &out, seen: Vec::new() };
-    show(&Global, LIMITS, &mut looks, Adds(&out), Calls(0));
+    show(LIMITS, &mut looks, Adds(&out), Calls(0));
     let mut input = Pieces::new(bytes, [SIZE; 3]);
-    show(&Global, LIMITS, &mut input, Narrow::new(0, 1), Calls(0));
+    show(LIMITS, &mut input, Narrow::new(0, 1), Calls(0));
     let early = if looks.seen == wanted { String::new() } else { format!("reads where {:?} bytes are out\n", looks.seen) };
     early + if input.left() + SIZE < bytes.len() { "reads on after a write fault\n" } else { "" }
 }

@@ -13,7 +13,6 @@ use crate::cqlp_decode::{Decoder, Finish, Outcome};
 use crate::cqlp_note::Limits;
 use crate::cqlp_render::render_rows;
 use crate::digits::bytes_of;
-use crate::kit_std::alloc::Global;
 use done::{Done, Invocation, WHOLE};
 use fakes::{Narrow, Pieces};
 use std::fs;
@@ -110,7 +109,7 @@ fn of_pages(line: &str, bytes: &[u8], shown: &Done) -> String {
     let words = line.replacen("show", "rows", 1);
     let call = Invocation::new(&words, bytes);
     let done = call.whole();
-    let mut decoder = Decoder::new(Global, limits).unwrap();
+    let mut decoder = Decoder::new(limits).unwrap();
     let (outcome, out) = render_rows(&mut decoder, &mut Pieces::new(bytes, WHOLE), Narrow::new(usize::MAX, 7), u64::MAX);
     let is_whole = matches!(outcome, Outcome::Finished(Finish::Whole { .. }));
     let is_good = done.out == out.text && done.err == shown.err && done.status == shown.status && (done.status == 0) == is_whole;

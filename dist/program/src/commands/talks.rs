@@ -3,7 +3,6 @@ use super::pipes::Wires;
 use crate::cqlp_loop::{LoopFault, Socket, talk};
 use crate::cqlp_note::{OfStd, Target};
 use crate::digits::bytes_of;
-use crate::kit_std::alloc::Global;
 
 /// How many bytes a call moves at most.
 const MOST: usize = 4_096;
@@ -52,6 +51,6 @@ fn conversation(count: u16, wires: &Wires) -> (Vec<u8>, Result<(), LoopFault>) {
     let mut client = Socket { source: wires.down(), target: wires.up() };
     let mut server = Socket { source: wires.up(), target: wires.down() };
     let mut out = OfStd::new(Vec::new());
-    let outcome = talk(Global, count, &mut client, &mut server, &mut out);
+    let outcome = talk(count, &mut client, &mut server, &mut out);
     (out.inner, outcome)
 }

@@ -4,7 +4,7 @@ use crate::cqlp_tcp_connections::{ConnectionTotals, Connections, Departure, Dire
 use crate::cqlp_tcp_reassembly::{GapCause, StreamStep};
 use crate::cqlp_tcp_segment::Segment;
 use crate::heap::refusing;
-use crate::kit_std::alloc::{AllocError, Global};
+use crate::kit_std::alloc::AllocError;
 use std::fmt::Write;
 
 /// What was reported of one direction of a connection.
@@ -27,7 +27,7 @@ struct Listener {
 /// A line for each direction of a connection in a capture, when it leaves, and what was counted. The same is reported where each call is refused
 /// memory first, and made again if it says so; and each request of `new` is needed.
 pub fn said(asked: Asked, packets: &[Packet]) -> String {
-    let make = || Connections::new(Global, asked.limits, &[asked.port]);
+    let make = || Connections::new(asked.limits, &[asked.port]);
     let needed = refusing(u64::MAX, u64::MAX, || make().is_ok()).1;
     for number in 1..=needed {
         assert!(refusing(number, number, || make().is_err()).0, "made without request {number}");

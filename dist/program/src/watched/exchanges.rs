@@ -2,12 +2,12 @@
 use super::facts::words;
 use super::{Asked, Packet, fold};
 use crate::cqlp_note::Prim;
-use crate::cqlp_observer::{Extent, Kept, Message, Paired, Watch, WatchRoom, subject_of};
+use crate::cqlp_observer::{Extent, Kept, Paired, SeenMessage, Watch, WatchRoom, subject_of};
 use crate::cqlp_tcp_connections::{Connections, Departure, Admission, Delivery, Way};
 use crate::cqlp_tcp_reassembly::{GapCause, StreamStep};
 use crate::cqlp_tcp_segment::Segment;
 use crate::heap::refusing;
-use crate::kit_std::alloc::{AllocError, Global};
+use crate::kit_std::alloc::AllocError;
 
 /// What is watched of the connections of a capture, in the order of their numbers.
 struct Watcher {
@@ -48,7 +48,7 @@ impl Watcher {
     /// Watches all connections of a capture to their ends.
     fn watch(&mut self, asked: Asked, packets: &[Packet]) -> Result<(), AllocError> {
         let ports = [asked.port];
-        let mut connections = self.ask(|_| Connections::new(Global, asked.limits, &ports).map_err(|_| AllocError))?;
+        let mut connections = self.ask(|_| Connections::new(asked.limits, &ports).map_err(|_| AllocError))?;
         for packet in packets {
             self.time = packet.time;
             if let Ok(segment) = packet.segment() {
@@ -78,7 +78,7 @@ impl Watcher {
         let Admission::Taken { number, .. } = self.ask(|_| connections.take(&segment.head))? else { return Ok(()) };
         while (self.watches.len() as u64) < number {
             self.watches.reserve(1);
-            let made = self.ask(|_| Watch::new(Global))?;
+            let made = self.ask(|_| Watch::new())?;
             self.watches.push(made);
         }
         let time = self.time;
@@ -155,7 +155,7 @@ impl Watcher {
 }
 
 /// A message's stream id, opcode, length, place, times, the number of what is kept of it, what that is about, and what it says.
-fn said_of(message: &Message<Kept>) -> String {
+fn said_of(message: &SeenMessage<Kept>) -> String {
     let (frame, front) = (message.frame, message.kept.front());
     let header = frame.header;
     let subject = match subject_of(&header, front).map(|field| field.value) {

@@ -14,7 +14,6 @@ use crate::cqlp_capture::{CaptureEvent, CaptureLimits, CaptureReader, CaptureSte
 use crate::cqlp_tcp_connections::ConnectionLimits;
 use crate::cqlp_tcp_segment::{LinkType, NoSegment, Segment, read_segment};
 use crate::digits::bytes_of;
-use crate::kit_std::alloc::Global;
 use std::fs::read;
 
 /// Which connections a line asks for.
@@ -104,7 +103,7 @@ impl Packet {
 
 /// The packets of a capture up to its end, or to where it is refused.
 fn packets_of(file: &[u8]) -> Vec<Packet> {
-    let mut reader = CaptureReader::new(Global, CaptureLimits::DEFAULT).unwrap();
+    let mut reader = CaptureReader::new(CaptureLimits::DEFAULT).unwrap();
     let (mut packets, mut rest): (Vec<Packet>, _) = (Vec::new(), file);
     while let CaptureStep::Event { used, event, .. } = reader.next(rest) {
         match event {

@@ -2,7 +2,6 @@
 use crate::cqlp_note::OfStd;
 use crate::cqlp_statement_file::{StatementTexts, StatementsFault, read_statements};
 use crate::heap::{measured, refusing};
-use crate::kit_std::alloc::Global;
 use std::io::{self, Read};
 
 const FILE: &str = " [json]\n----\n \
@@ -32,7 +31,7 @@ impl Read for Pieces<'_> {
 }
 
 fn read_in(text: &str, size: usize, fails_at: usize) -> Result<StatementTexts, StatementsFault> {
-    read_statements(Global, &mut OfStd::new(Pieces { bytes: text.as_bytes(), size, fails_at }))
+    read_statements(&mut OfStd::new(Pieces { bytes: text.as_bytes(), size, fails_at }))
 }
 
 fn found(texts: &StatementTexts, id: &[u8]) -> Option<(String, bool)> {
@@ -60,7 +59,7 @@ fn a_file_in_little_memory() {
         assert_eq!((fault, kept), (Some(StatementsFault::NoMemory), 0), "{number}");
     }
     let (grown, most, kept) = measured(|| {
-        let mut texts = StatementTexts::new(Global);
+        let mut texts = StatementTexts::new();
         for number in 0..1000_u16 {
             texts.add(number.to_be_bytes().repeat(8)[..].to_vec().into(), &"é".repeat(300)).ok().unwrap();
         }

@@ -5,7 +5,6 @@ use crate::cqlp_note::OfStd;
 use crate::cqlp_capture_summary::{Fingerprint, Occurrence, Summary};
 use crate::cqlp_text::TextWriter;
 use crate::heap::refusing;
-use crate::kit_std::alloc::Global;
 
 #[test]
 fn what_summaries_say() {
@@ -110,9 +109,9 @@ fn named(name: &str) -> Occurrence<'_> {
 /// A summary of at most this many statements, for which memory is asked six times, or twice for none, and each time needed.
 fn begun(statements: usize) -> Summary {
     for number in 1..=2 + 4 * statements.min(1) as u64 {
-        assert!(refusing(number, number, || Summary::new(Global, statements).is_err()).0, "made without request {number}");
+        assert!(refusing(number, number, || Summary::new(statements).is_err()).0, "made without request {number}");
     }
-    Summary::new(Global, statements).unwrap()
+    Summary::new(statements).unwrap()
 }
 
 fn occurrence_of(line: &str) -> Occurrence<'_> {

@@ -5,7 +5,6 @@ use crate::cqlp_capture_exchanges::{ExchangeFilter, ExchangeForm, ExchangeLimits
 use crate::cqlp_capture_streams::{Buffering, StreamsLimits};
 use crate::cqlp_note::OfStd;
 use crate::cqlp_statement_file::StatementTexts;
-use crate::kit_std::alloc::Global;
 
 #[test]
 fn what_tables_are_named() {
@@ -23,7 +22,7 @@ fn name_of(statement: &str) -> String {
     let (mut file, out, err) = (OfStd::new(&file[..]), OfStd::new(Vec::new()), OfStd::new(Vec::new()));
     let (limits, form) = (StreamsLimits::DEFAULT, ExchangeForm::Summary(SummaryBy::Table));
     let (status, out, _) =
-        write_exchanges(Global, limits, ExchangeLimits::DEFAULT, &[9042], StatementTexts::new(Global), ExchangeFilter::ALL, form, Buffering::Block, &mut file, out, err);
+        write_exchanges(limits, ExchangeLimits::DEFAULT, &[9042], StatementTexts::new(), ExchangeFilter::ALL, form, Buffering::Block, &mut file, out, err);
     let summary = String::from_utf8(out.into_inner()).unwrap();
     let (heading, row) = summary.split_once('\n').unwrap();
     assert_eq!((status, row.lines().count()), (0, 1));

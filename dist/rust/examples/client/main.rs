@@ -8,8 +8,8 @@
 use cqlp::frame::{BatchEntry, Frame, Message, QueryParams};
 use cqlp::rows::PageReader;
 use cqlp::text::{opcode_name, render_rows};
-use cqlp::wire::{ClientSide, FrameReader, Heard};
-use cqlp::{Consistency, Decoder, Global, Limits, OfStd, bind, row};
+use cqlp::wire::{ClientSide, FrameReader, Response};
+use cqlp::{Consistency, Decoder, Limits, OfStd, bind, row};
 use std::io::stdout;
 use std::net::{Ipv4Addr, TcpStream};
 use std::time::Instant;
@@ -42,7 +42,7 @@ impl Connection {
     /// Waits for the next reply, and returns the number of its request.
     fn hear(&mut self) -> Result<u32> {
         match self.side.wait(&mut self.stream)? {
-            Some(Heard::Reply { carried, .. }) => Ok(carried),
+            Some(Response::Reply { carried, .. }) => Ok(carried),
             _ => Err("the connection ended before a reply".into()),
         }
     }
@@ -57,7 +57,7 @@ impl Connection {
             Message::Error { code, message, .. } => println!("ERROR {code:04x}: {message}{words}"),
             _ => println!("{}{words}", opcode_name(message.opcode())),
         }
-        render_rows(&mut Decoder::new(Global, Limits::DEFAULT)?, &mut OfStd::new(self.side.frame()), OfStd::new(stdout()), u64::MAX);
+        render_rows(&mut Decoder::new(Limits::DEFAULT)?, &mut OfStd::new(self.side.frame()), OfStd::new(stdout()), u64::MAX);
         Ok(message)
     }
 
@@ -96,10 +96,10 @@ impl Connection {
             let reply = self.show(Message::query("SELECT * FROM ks.t WHERE k = 3", params(state).with_page_size(PAGE)))?;
             let Message::Rows(page) = reply else { break };
             let Some(next) = page.meta.paging.flatten() else { break };
-            state = Some(next.into_std());
+            state = Some(next);
         }
         self.execute("SELECT * FROM ks.t WHERE k = ?", 7)?;
-        let entry = BatchEntry::Text("INSERT INTO ks.t (k, c) VALUES (1, 1)".into(), vec![].into());
+        let entry = BatchEntry::Text("INSERT INTO ks.t (k, c) VALUES (1, 1)".into(), vec![]);
         self.show(Message::batch(vec![entry], Consistency::One))?;
         self.show(Message::execute(b"none", params(None)))?;
         for text in ["SELECT * FROM ks.nothing", "BAD"] {

@@ -2,8 +2,8 @@
 
 use super::line::Line;
 use cqlp::memory::AllocError;
-use cqlp::watch::{Facts, FactsReader, Frame, Heads, Heard, Message, Paired, Pairing};
-use cqlp::{Global, Header, Opcode};
+use cqlp::watch::{Facts, FactsReader, Heads, Heard, Paired, Pairing, SeenFrame, SeenMessage};
+use cqlp::{Header, Opcode};
 use std::fmt;
 use std::io::Write;
 
@@ -112,9 +112,9 @@ impl Side {
     }
 
     /// It ends.
-    fn close(&mut self, frame: Frame) -> Message<Seen> {
+    fn close(&mut self, frame: SeenFrame) -> SeenMessage<Seen> {
         self.next = frame.at + 9 + u64::from(frame.header.length);
-        Message { frame, kept: Seen { facts: self.facts.facts(), words: self.words } }
+        SeenMessage { frame, kept: Seen { facts: self.facts.facts(), words: self.words } }
     }
 }
 
@@ -132,13 +132,7 @@ pub struct Observer<W> {
 impl<W: Write> Observer<W> {
     /// Nothing was seen of the connection with this number. Lines go to `out`.
     pub fn new(number: u64, out: W) -> Result<Self, AllocError> {
-        Ok(Observer {
-            number,
-            requests: Side::new(Way::Requests),
-            responses: Side::new(Way::Responses),
-            pairing: Pairing::new(Global)?,
-            out,
-        })
+        Ok(Observer { number, requests: Side::new(Way::Requests), responses: Side::new(Way::Responses), pairing: Pairing::new()?, out })
     }
 
     /// Sees the next bytes of a direction, which came at this time: nanoseconds of any clock that does not go back.
@@ -192,7 +186,7 @@ impl<W: Write> Observer<W> {
     }
 
     /// A frame has ended, and is paired.
-    fn close(&mut self, way: Way, frame: Frame) {
+    fn close(&mut self, way: Way, frame: SeenFrame) {
         let message = self.side(way).close(frame);
         let has_room = self.pairing.len() < WAITING;
         if let Ok(Some(told)) = self.pairing.take(message, has_room) {

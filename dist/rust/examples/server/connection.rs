@@ -4,7 +4,7 @@ use super::node::{Node, Reply};
 use super::problem::Problem;
 use cqlp::frame::{BuildLimits, Frame, FrameBuilder, encode};
 use cqlp::session::Server;
-use cqlp::{Decoder, Global, Header, Limits, OfStd, Step};
+use cqlp::{Decoder, Header, Limits, OfStd, Step};
 use std::error::Error;
 use std::io::{BufRead, BufReader, BufWriter, Read, Write};
 
@@ -42,9 +42,9 @@ impl<R: Read, W: Write> Connection<R, W> {
         Ok(Connection {
             input: BufReader::new(input),
             output: OfStd::new(BufWriter::new(output)),
-            decoder: Decoder::new(Global, LIMITS)?,
-            builder: FrameBuilder::new(Global, limits),
-            core: Server::new(Global, STREAM_IDS)?,
+            decoder: Decoder::new(LIMITS)?,
+            builder: FrameBuilder::new(limits),
+            core: Server::new(STREAM_IDS)?,
         })
     }
 
@@ -139,7 +139,7 @@ fn has_whole_frame(buffer: &[u8]) -> bool {
 /// The ERROR for a refused request with this header. For a request of another version it names version 4.
 fn refusal(header: &[u8; 9], why: &str) -> Result<Frame> {
     if header[0] & 0x7f != VERSION {
-        return Ok(Frame::version_error(Global, header)?);
+        return Ok(Frame::version_error(header)?);
     }
     let stream = i16::from_be_bytes([header[2], header[3]]);
     Ok(Frame::plain(stream, Problem::protocol(why).into()))

@@ -5,7 +5,7 @@ use super::statement::Select;
 use super::table::{Column, Table};
 use cqlp::Target;
 use cqlp::frame::{Frame, Message, Metadata, PageError, PageWriter, QueryParams, Rows, Spec, Value, value_size};
-use cqlp::memory::{AllocError, String};
+use cqlp::memory::AllocError;
 
 /// The flags of metadata: all columns are of one table, there is a next page, the columns are not described. Section 4.2.5.2 of
 /// `native_protocol_v4.spec`.
@@ -44,10 +44,10 @@ impl<'a> Page<'a> {
         };
         if let Some(next) = all.get(after) {
             meta.flags |= MORE_PAGES;
-            meta.paging = Some(Some(next.to_be_bytes().to_vec().into()));
+            meta.paging = Some(Some(next.to_be_bytes().to_vec()));
         }
         let rows = all[first..after].to_vec();
-        let message = Message::Rows(Rows { meta, rows: rows.len() as u32, cells: vec![].into() });
+        let message = Message::Rows(Rows { meta, rows: rows.len() as u32, cells: vec![] });
         Ok(Page { frame: Frame::plain(stream, message), columns, table: select.table, rows, selected: select.columns })
     }
 
@@ -82,14 +82,14 @@ fn first_row(rows: &[usize], params: &QueryParams) -> Result<usize, Problem> {
 
 /// The keyspace and the name of a table.
 pub fn full_name(table: &Table) -> (String, String) {
-    (table.keyspace.clone().into(), table.name.clone().into())
+    (table.keyspace.clone(), table.name.clone())
 }
 
 /// Metadata that describe the columns that are selected.
 pub fn described(select: &Select) -> Result<Metadata, AllocError> {
     let specs: Vec<Spec> = select.columns.iter().map(|column| select.table.columns[*column].spec()).collect::<Result<_, _>>()?;
     let columns = specs.len() as u32;
-    Ok(Metadata { flags: ONE_TABLE, columns, paging: None, table: Some(full_name(select.table)), specs: Some(specs.into()) })
+    Ok(Metadata { flags: ONE_TABLE, columns, paging: None, table: Some(full_name(select.table)), specs: Some(specs) })
 }
 
 /// Metadata with the number of columns alone.

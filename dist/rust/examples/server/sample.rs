@@ -26,5 +26,5 @@ fn row(key: i32, number: i32) -> Vec<Value> {
 
 /// The number before this one and the one after it, and null where the number is a multiple of 3.
 fn neighbours(number: i32) -> Value {
-    if number % 3 == 0 { Value::Null } else { Value::List(vec![(number - 1).into(), (number + 1).into()].into()) }
+    if number % 3 == 0 { Value::Null } else { Value::List(vec![(number - 1).into(), (number + 1).into()]) }
 }

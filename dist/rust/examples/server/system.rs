@@ -41,7 +41,7 @@ fn local() -> Result<Table, AllocError> {
         ("rpc_address", INET, here()),
         ("host_id", UUID, id()),
         ("schema_version", UUID, id()),
-        ("tokens", Type::Set(Kind::Varchar), Value::Set(vec![text("0")].into())),
+        ("tokens", Type::Set(Kind::Varchar), Value::Set(vec![text("0")])),
     ];
     let mut table = Table::new("system", "local", &cells.each_ref().map(|(name, of, _)| (*name, *of)))?;
     table.rows.push(cells.map(|(_, _, value)| value).into());

@@ -2,7 +2,7 @@
 //! value. The words, the order of the checks and the texts are clap's; colours, short options but `-h` and `-V`, and all else that the program does
 //! not use are left out. Written by hand, and not proved; dist/words compares it with the proved program.
 use crate::kit_host::text::AsStr;
-use crate::kit_std::alloc::{AllocError, Global};
+use crate::kit_std::alloc::AllocError;
 use std::borrow::ToOwned;
 use std::boxed::Box;
 use std::fmt;
@@ -131,7 +131,7 @@ pub struct Arg<'a> {
 }
 
 impl<'a> Arg<'a> {
-    pub fn new(_: Global, id: &'a str) -> Self {
+    pub fn new(id: &'a str) -> Self {
         Arg {
             id,
             help: "",
@@ -200,8 +200,8 @@ pub struct Command<'a> {
 }
 
 impl<'a> Command<'a> {
-    pub fn new(alloc: Global, name: &'a str) -> Self {
-        let help = Arg::new(alloc, "help").long("help").action(ArgAction::Help).help("Print help");
+    pub fn new(name: &'a str) -> Self {
+        let help = Arg::new("help").long("help").action(ArgAction::Help).help("Print help");
         Command {
             name,
             about: "",
@@ -222,7 +222,7 @@ impl<'a> Command<'a> {
     }
 
     pub fn version(mut self, version: &'a str) -> Self {
-        self.args.push(Arg::new(Global, "version").long("version").action(ArgAction::Version).help("Print version"));
+        self.args.push(Arg::new("version").long("version").action(ArgAction::Version).help("Print version"));
         Command { version: Some(version), ..self }
     }
 

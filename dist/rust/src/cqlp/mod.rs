@@ -1,7 +1,7 @@
 // Written by dist/erase from crates/cqlp/src/main.rt.
 //! Reads streams of the CQL native protocol v4, as its words say, and writes what is in them; or has a client and a server talk.
 
-use crate::kit_host::prelude::{AllocGlobal, HostRuntime, eprintln};
+use crate::kit_host::prelude::{HostRuntime, eprintln};
 mod screen;
 mod terminal;
 mod words;
@@ -29,7 +29,7 @@ pub fn main(rt: HostRuntime) -> ExitCode {
 /// Does what the words after the program's name say. Answers the exit status.
 fn run(rt: &HostRuntime) -> Result<u8, AllocError> {
     let mut words = read_words(rt)?;
-    match redirect(rt.alloc(), &mut words) {
+    match redirect(&mut words) {
         Ok(()) => {}
         Err(NotRead::NoMemory) => return Err(AllocError),
         Err(NotRead::CannotOpen(place)) => {
@@ -37,7 +37,7 @@ fn run(rt: &HostRuntime) -> Result<u8, AllocError> {
             return Ok(FAULT);
         }
     }
-    let texts = texts(rt.alloc(), &words)?;
+    let texts = texts(&words)?;
     let texts = texts.as_slice();
     let mut input = OfStd::new(rt.stdin());
     let out = Screen::new(OfStd::new(rt.stdout()), table_for(rt, texts));

@@ -1,12 +1,11 @@
 // Written by dist/erase from crates/cqlp/src/words.rt.
 //! Words that need not be text.
 
-use crate::kit_host::prelude::{AllocGlobal, String, Vec, format};
+use crate::kit_host::prelude::{KitString, KitText, KitVec, String, Vec, format};
 use crate::cqlp_options::CommandLine;
 use crate::libc::STDIN_FILENO;
-use crate::kit_std::alloc::{AllocError, Global};
+use crate::kit_std::alloc::{AllocError};
 use crate::kit_host::env::{Env, FillError};
-use core::fmt::Write;
 
 /// A word after the program's name.
 pub struct Argument {
@@ -17,12 +16,12 @@ pub struct Argument {
 }
 
 impl Argument {
-    fn new(alloc: Global, bytes: Vec<u8>) -> Result<Argument, AllocError> {
+    fn new(bytes: Vec<u8>) -> Result<Argument, AllocError> {
         match String::from_utf8(bytes) {
             Ok(text) => Ok(Argument { text, raw: None }),
             Err(error) => {
                 let raw = error.into_bytes();
-                let text = escaped(alloc, &raw)?;
+                let text = escaped(&raw)?;
                 let raw = Some(raw);
                 Ok(Argument { text, raw })
             }
@@ -31,23 +30,23 @@ impl Argument {
 }
 
 /// All words after the program's name.
-pub fn read_words<R: Env + AllocGlobal>(rt: &R) -> Result<Vec<Argument>, AllocError> {
-    let mut words = Vec::new(rt.alloc());
+pub fn read_words<R: Env>(rt: &R) -> Result<Vec<Argument>, AllocError> {
+    let mut words = Vec::new();
     for place in 1..usize::MAX {
         let Some(bytes) = read_word(rt, place)? else {
             break;
         };
-        words.push(Argument::new(rt.alloc(), bytes)?)?;
+        words.kit_push(Argument::new(bytes)?)?;
     }
     Ok(words)
 }
 
 /// The bytes of the word at a place, if there is one. A buffer that is too short is doubled.
-fn read_word<R: Env + AllocGlobal>(rt: &R, place: usize) -> Result<Option<Vec<u8>>, AllocError> {
-    let mut bytes = Vec::new(rt.alloc());
+fn read_word<R: Env>(rt: &R, place: usize) -> Result<Option<Vec<u8>>, AllocError> {
+    let mut bytes = Vec::new();
     let mut room = 256usize;
     for _ in 0..usize::BITS {
-        bytes.resize(room, 0)?;
+        bytes.kit_resize(room, 0)?;
         match rt.arg(place, bytes.as_mut_slice()) {
             Ok(len) => {
                 bytes.truncate(len);
@@ -60,10 +59,10 @@ fn read_word<R: Env + AllocGlobal>(rt: &R, place: usize) -> Result<Option<Vec<u8
     Err(AllocError)
 }
 
-fn escaped(alloc: Global, bytes: &[u8]) -> Result<String, AllocError> {
-    let mut text = String::new(alloc);
+fn escaped(bytes: &[u8]) -> Result<String, AllocError> {
+    let mut text = String::new();
     for chunk in bytes.utf8_chunks() {
-        text.push_str(chunk.valid())?;
+        text.kit_push_str(chunk.valid())?;
         for byte in chunk.invalid() {
             write!(text, "\\x{byte:02x}")?;
         }
@@ -72,10 +71,10 @@ fn escaped(alloc: Global, bytes: &[u8]) -> Result<String, AllocError> {
 }
 
 /// The texts of the words.
-pub fn texts(alloc: Global, words: &[Argument]) -> Result<Vec<&str>, AllocError> {
-    let mut texts = Vec::new(alloc);
+pub fn texts(words: &[Argument]) -> Result<Vec<&str>, AllocError> {
+    let mut texts = Vec::new();
     for word in words {
-        texts.push(word.text.as_str())?;
+        texts.kit_push(word.text.as_str())?;
     }
     Ok(texts)
 }
@@ -96,18 +95,18 @@ impl From<AllocError> for NotRead {
 
 /// Opens the files whose names are no text, and has their words name them by one: a file that is alone, opened in the place of standard input,
 /// by `-`, and each of several by its descriptor.
-pub fn redirect(alloc: Global, words: &mut [Argument]) -> Result<(), NotRead> {
+pub fn redirect(words: &mut [Argument]) -> Result<(), NotRead> {
     if words.iter().all(|word| word.raw.is_none()) {
         return Ok(());
     }
-    let files = raw_files(alloc, words)?;
+    let files = raw_files(words)?;
     for place in &files.places {
         let Some(word) = words.get_mut(*place) else {
             continue;
         };
         let name = match &word.raw {
-            Some(raw) if files.are_several => descriptor_name(alloc, raw)?,
-            Some(raw) => input_name(alloc, raw)?,
+            Some(raw) if files.are_several => descriptor_name(raw)?,
+            Some(raw) => input_name(raw)?,
             None => continue,
         };
         word.text = name.ok_or(NotRead::CannotOpen(*place))?;
@@ -123,10 +122,10 @@ struct RawFiles {
     are_several: bool,
 }
 
-fn raw_files(alloc: Global, words: &[Argument]) -> Result<RawFiles, AllocError> {
-    let mut places = Vec::new(alloc);
-    let texts = texts(alloc, words)?;
-    let Ok(line) = CommandLine::parse(alloc, texts.as_slice()) else {
+fn raw_files(words: &[Argument]) -> Result<RawFiles, AllocError> {
+    let mut places = Vec::new();
+    let texts = texts(words)?;
+    let Ok(line) = CommandLine::parse(texts.as_slice()) else {
         return Ok(RawFiles {
             places,
             are_several: false,
@@ -134,7 +133,7 @@ fn raw_files(alloc: Global, words: &[Argument]) -> Result<RawFiles, AllocError> 
     };
     for (place, word) in words.iter().enumerate() {
         if is_raw_file(&line, word) {
-            places.push(place)?;
+            places.kit_push(place)?;
         }
     }
     let are_several = line.has_several_files();
@@ -150,21 +149,21 @@ fn is_raw_file(line: &CommandLine<'_>, word: &Argument) -> bool {
 }
 
 /// What names a file that is opened as standard input, if it can be.
-fn input_name(alloc: Global, name: &[u8]) -> Result<Option<String>, AllocError> {
+fn input_name(name: &[u8]) -> Result<Option<String>, AllocError> {
     if !open_as_input(name) {
         return Ok(None);
     }
-    let text = String::from_str(alloc, "-")?;
+    let text = String::from_str("-")?;
     Ok(Some(text))
 }
 
 /// What names a file by a descriptor that is opened for it, if it can be.
-fn descriptor_name(alloc: Global, name: &[u8]) -> Result<Option<String>, AllocError> {
+fn descriptor_name(name: &[u8]) -> Result<Option<String>, AllocError> {
     let descriptor = crate::os::open_read(name);
     if descriptor < 0 {
         return Ok(None);
     }
-    let text = format!(in alloc; "/dev/fd/{descriptor}")?;
+    let text = format!("/dev/fd/{descriptor}")?;
     Ok(Some(text))
 }
 

@@ -9,7 +9,7 @@ use crate::cqlp_build_cells::{CellEvents, scalar_size};
 use crate::cqlp_grammar::Event;
 use crate::cqlp_message::Frame;
 use crate::cqlp_note::{BoundValue, Header};
-use crate::kit_std::alloc::{AllocError, Global};
+use crate::kit_std::alloc::{AllocError};
 use crate::kit_std::collections::VecDeque;
 
 /// What a builder may hold of one frame.
@@ -66,16 +66,15 @@ pub struct FrameBuilder {
 impl FrameBuilder {
     /// A builder between frames, which asks for no memory yet.
     #[must_use]
-    pub fn new(alloc: Global, limits: BuildLimits) -> FrameBuilder {
+    pub fn new(limits: BuildLimits) -> FrameBuilder {
         FrameBuilder {
             held: FrameEvents {
-                alloc,
-                items: VecDeque::new(alloc),
-                cell: CellEvents::new(alloc),
+                items: VecDeque::new(),
+                cell: CellEvents::new(),
                 fault: None,
             },
             header: None,
-            nesting: Nesting::new(alloc),
+            nesting: Nesting::new(),
             limits,
             room: limits.bytes as usize,
         }
@@ -197,7 +196,7 @@ impl FrameBuilder {
         if self.make_room().is_err() {
             return Err(BuildError::NoMemory);
         }
-        let Ok(item) = own(self.held.alloc, event) else {
+        let Ok(item) = own(event) else {
             return Err(BuildError::NoMemory);
         };
         self.held.items.push_back_reserved(item);

@@ -5,7 +5,6 @@ use crate::kit_std::prelude::{String, Vec};
 use crate::cqlp_build::item::Content;
 use crate::cqlp_message::OwnedBound;
 use crate::cqlp_note::Address;
-use crate::kit_std::alloc::Global;
 
 /// What a field may hold.
 pub(crate) trait FromContent: Sized {
@@ -13,7 +12,7 @@ pub(crate) trait FromContent: Sized {
     fn of(content: Content) -> Option<Self>;
 
     /// Some value, for where none was found.
-    fn none(alloc: Global) -> Self;
+    fn none() -> Self;
 }
 
 impl FromContent for u8 {
@@ -24,7 +23,7 @@ impl FromContent for u8 {
         }
     }
 
-    fn none(_alloc: Global) -> Self {
+    fn none() -> Self {
         0
     }
 }
@@ -37,7 +36,7 @@ impl FromContent for u16 {
         }
     }
 
-    fn none(_alloc: Global) -> Self {
+    fn none() -> Self {
         0
     }
 }
@@ -50,7 +49,7 @@ impl FromContent for i32 {
         }
     }
 
-    fn none(_alloc: Global) -> Self {
+    fn none() -> Self {
         0
     }
 }
@@ -63,7 +62,7 @@ impl FromContent for i64 {
         }
     }
 
-    fn none(_alloc: Global) -> Self {
+    fn none() -> Self {
         0
     }
 }
@@ -76,7 +75,7 @@ impl FromContent for [u8; 16] {
         }
     }
 
-    fn none(_alloc: Global) -> Self {
+    fn none() -> Self {
         [0; 16]
     }
 }
@@ -89,7 +88,7 @@ impl FromContent for u32 {
         }
     }
 
-    fn none(_alloc: Global) -> Self {
+    fn none() -> Self {
         0
     }
 }
@@ -102,8 +101,8 @@ impl FromContent for String {
         }
     }
 
-    fn none(alloc: Global) -> Self {
-        String::new(alloc)
+    fn none() -> Self {
+        String::new()
     }
 }
 
@@ -115,7 +114,7 @@ impl FromContent for Option<Vec<u8>> {
         }
     }
 
-    fn none(_alloc: Global) -> Self {
+    fn none() -> Self {
         None
     }
 }
@@ -128,7 +127,7 @@ impl FromContent for OwnedBound {
         }
     }
 
-    fn none(_alloc: Global) -> Self {
+    fn none() -> Self {
         OwnedBound::Null
     }
 }
@@ -141,8 +140,8 @@ impl FromContent for Vec<u8> {
         }
     }
 
-    fn none(alloc: Global) -> Self {
-        Vec::new(alloc)
+    fn none() -> Self {
+        Vec::new()
     }
 }
 
@@ -154,7 +153,7 @@ impl FromContent for (Address, i32) {
         }
     }
 
-    fn none(_alloc: Global) -> Self {
+    fn none() -> Self {
         (Address::V4([0; 4]), 0)
     }
 }

@@ -8,7 +8,6 @@ use crate::cqlp_build_cells::{CellEvents, Step};
 use crate::cqlp_kind::Kind;
 use crate::cqlp_message::OwnedBound;
 use crate::cqlp_note::{Address, Field};
-use crate::kit_std::alloc::Global;
 use crate::kit_std::collections::VecDeque;
 
 /// Whether some of these bits is set.
@@ -28,7 +27,6 @@ pub(crate) enum Fault {
 /// The events after a header, each of which is taken once. What takes one gives a value, and where another event was due some
 /// value, and keeps the fault: nothing is taken after it.
 pub(crate) struct FrameEvents {
-    pub alloc: Global,
     pub items: VecDeque<Item>,
     /// The events of the cell that is under way.
     pub cell: CellEvents,
@@ -99,7 +97,7 @@ impl FrameEvents {
             Some(value) => value,
             None => {
                 self.refuse(Fault::NoFrame);
-                T::none(self.alloc)
+                T::none()
             }
         }
     }

@@ -1,7 +1,7 @@
 // Written by dist/erase from crates/cqlp_build/src/lists.rt.
 //! Items that come one after the other.
 
-use crate::kit_std::prelude::{String, Vec};
+use crate::kit_std::prelude::{KitVec, String, Vec};
 use crate::cqlp_build::held::{Fault, FrameEvents};
 use crate::cqlp_message::{BatchEntry, OwnedBound};
 use crate::cqlp_note::Field;
@@ -88,7 +88,7 @@ impl FromEvents for BatchEntry {
             }
             _ => {
                 held.refuse(Fault::NoFrame);
-                BatchEntry::Id(Vec::new(held.alloc), Vec::new(held.alloc))
+                BatchEntry::Id(Vec::new(), Vec::new())
             }
         }
     }
@@ -97,13 +97,13 @@ impl FromEvents for BatchEntry {
 impl FrameEvents {
     /// Takes this many items.
     pub fn many<T: FromEvents>(&mut self, count: u32, wanted: Wanted) -> Vec<T> {
-        let mut items = Vec::new(self.alloc);
+        let mut items = Vec::new();
         for _ in 0..count {
             let item = T::build(self, wanted);
             if self.fault.is_some() {
                 return items;
             }
-            if items.push(item).is_err() {
+            if items.kit_push(item).is_err() {
                 self.fault = Some(Fault::NoMemory);
                 return items;
             }

@@ -4,7 +4,7 @@
 use crate::cqlp_grammar::Event;
 use crate::cqlp_kind::Kind;
 use crate::cqlp_note::Field;
-use crate::kit_std::alloc::{AllocError, Global};
+use crate::kit_std::alloc::{AllocError};
 use crate::kit_std::collections::VecDeque;
 
 /// The type options in which others are still to begin, and those around them.
@@ -15,9 +15,9 @@ pub(crate) struct Nesting {
 
 impl Nesting {
     /// None.
-    pub fn new(alloc: Global) -> Nesting {
+    pub fn new() -> Nesting {
         Nesting {
-            left: VecDeque::new(alloc),
+            left: VecDeque::new(),
         }
     }
 

@@ -1,7 +1,7 @@
 // Written by dist/erase from crates/cqlp_build/src/pages.rt.
 //! Pages of rows. Section 4.2.5.2 of `native_protocol_v4.spec`.
 
-use crate::kit_std::prelude::{Vec};
+use crate::kit_std::prelude::{KitVec, Vec};
 use crate::cqlp_build::held::{Fault, FrameEvents};
 use crate::cqlp_build_cells::{CellError, Step, ends};
 use crate::cqlp_kind::Kind;
@@ -21,7 +21,7 @@ impl FrameEvents {
 
     /// Takes the cells of this many rows.
     fn cells(&mut self, rows: u32, meta: &Metadata) -> Vec<Value> {
-        let mut cells = Vec::new(self.alloc);
+        let mut cells = Vec::new();
         if self.fault.is_some() {
             return cells;
         }
@@ -44,7 +44,7 @@ impl FrameEvents {
             if self.fault.is_some() {
                 return;
             }
-            if cells.push(cell).is_err() {
+            if cells.kit_push(cell).is_err() {
                 self.refuse(Fault::NoMemory);
                 return;
             }
@@ -86,7 +86,7 @@ impl FrameEvents {
         self.cell.clear();
         while let Some((level, step)) = self.next_step(row, column) {
             let ended = ends(level, &step);
-            if self.cell.push(level, step).is_err() {
+            if self.cell.kit_push(level, step).is_err() {
                 self.refuse(Fault::NoMemory);
                 return false;
             }
@@ -103,7 +103,7 @@ impl FrameEvents {
             return;
         }
         // No value is around as many, so it is the first event of none, and is taken where all others were those of one.
-        if self.cell.push(u32::MAX, Step::Null).is_err() {
+        if self.cell.kit_push(u32::MAX, Step::Null).is_err() {
             self.refuse(Fault::NoMemory);
             return;
         }

@@ -1,7 +1,7 @@
 // Written by dist/erase from crates/cqlp_build/src/types.rt.
 //! Types, of the events of their options.
 
-use crate::kit_std::prelude::{Box, String, Vec};
+use crate::kit_std::prelude::{Box, KitBox, KitVec, String, Vec};
 use crate::cqlp_build::held::{Fault, FrameEvents};
 use crate::cqlp_kind::Kind;
 use crate::cqlp_note::Field;
@@ -60,13 +60,13 @@ impl FrameEvents {
 
     /// Takes this many type options.
     fn types(&mut self, count: u32) -> Vec<TypeTree> {
-        let mut types = Vec::new(self.alloc);
+        let mut types = Vec::new();
         for _ in 0..count {
             let tree = self.tree();
             if self.fault.is_some() {
                 return types;
             }
-            if types.push(tree).is_err() {
+            if types.kit_push(tree).is_err() {
                 self.fault = Some(Fault::NoMemory);
                 return types;
             }
@@ -76,14 +76,14 @@ impl FrameEvents {
 
     /// Takes this many names, each with a type option.
     fn fields(&mut self, count: u32) -> Vec<(String, TypeTree)> {
-        let mut fields = Vec::new(self.alloc);
+        let mut fields = Vec::new();
         for _ in 0..count {
             let name = self.text(Field::FieldName);
             let tree = self.tree();
             if self.fault.is_some() {
                 return fields;
             }
-            if fields.push((name, tree)).is_err() {
+            if fields.kit_push((name, tree)).is_err() {
                 self.fault = Some(Fault::NoMemory);
                 return fields;
             }
@@ -120,7 +120,7 @@ impl FrameEvents {
 
     /// The same type, with a place of its own in memory.
     fn boxed(&mut self, tree: TypeTree) -> Option<Box<TypeTree>> {
-        match Box::new(self.alloc, tree) {
+        match Box::kit_new(tree) {
             Ok(boxed) => Some(boxed),
             Err(_) => {
                 self.fault = Some(Fault::NoMemory);

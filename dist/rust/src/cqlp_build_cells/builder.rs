@@ -8,7 +8,6 @@ use crate::cqlp_grammar::Event;
 use crate::cqlp_kind::Kind;
 use crate::cqlp_type::{TypeTree, check_type};
 use crate::cqlp_value::Value;
-use crate::kit_std::alloc::Global;
 
 /// What a builder may hold of one cell.
 #[derive(Clone, Copy, Debug, PartialEq, Eq)]
@@ -46,9 +45,9 @@ pub struct CellBuilder {
 impl CellBuilder {
     /// A builder between cells, which asks for no memory yet.
     #[must_use]
-    pub fn new(alloc: Global, limits: CellLimits) -> CellBuilder {
+    pub fn new(limits: CellLimits) -> CellBuilder {
         CellBuilder {
-            held: CellEvents::new(alloc),
+            held: CellEvents::new(),
             place: None,
             limits,
             room: limits.bytes as usize,
@@ -117,7 +116,7 @@ impl CellBuilder {
         if size > self.room {
             return Err(CellError::TooManyBytes);
         }
-        let Ok(step) = own(self.held.alloc, event) else {
+        let Ok(step) = own(event) else {
             return Err(CellError::NoMemory);
         };
         if self.held.items.push_back(step).is_err() {

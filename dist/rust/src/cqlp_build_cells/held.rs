@@ -1,8 +1,9 @@
 // Written by dist/erase from crates/cqlp_build_cells/src/held.rt.
 //! The events that are held of a cell, and what is taken of them.
 
+use crate::kit_std::prelude::{KitVec};
 use crate::cqlp_build_cells::step::Step;
-use crate::kit_std::alloc::{AllocError, Global};
+use crate::kit_std::alloc::{AllocError};
 use crate::kit_std::collections::VecDeque;
 
 /// Why nothing more is taken.
@@ -17,7 +18,6 @@ pub enum Fault {
 /// The events of a cell, each of which is taken once. What takes one gives a value, and where another event was due some value, and
 /// keeps the fault: nothing is taken after it.
 pub struct CellEvents {
-    pub(crate) alloc: Global,
     /// Each at its level.
     pub(crate) items: VecDeque<(u32, Step)>,
     pub(crate) fault: Option<Fault>,
@@ -25,10 +25,9 @@ pub struct CellEvents {
 
 impl CellEvents {
     /// No events, for which it asks for no memory.
-    pub fn new(alloc: Global) -> CellEvents {
+    pub fn new() -> CellEvents {
         CellEvents {
-            alloc,
-            items: VecDeque::new(alloc),
+            items: VecDeque::new(),
             fault: None,
         }
     }
@@ -43,7 +42,7 @@ impl CellEvents {
     /// # Errors
     ///
     /// [`AllocError`] where memory was refused, after which it is as it was.
-    pub fn push(&mut self, level: u32, step: Step) -> Result<(), AllocError> {
+    pub fn kit_push(&mut self, level: u32, step: Step) -> Result<(), AllocError> {
         self.items.reserve(1)?;
         self.items.push_back_reserved((level, step));
         Ok(())

@@ -1,11 +1,11 @@
 // Written by dist/erase from crates/cqlp_build_cells/src/step.rt.
 //! Events of cells that are held.
 
-use crate::kit_std::prelude::{String, Vec};
+use crate::kit_std::prelude::{KitString, KitVec, String, Vec};
 use crate::cqlp_grammar::Event;
 use crate::cqlp_kind::{Kind, Scalar};
 use crate::cqlp_value::Atom;
-use crate::kit_std::alloc::{AllocError, Global};
+use crate::kit_std::alloc::{AllocError};
 
 /// An event of a value at its level, with bytes of its own.
 pub enum Step {
@@ -19,9 +19,9 @@ pub enum Step {
 }
 
 /// The same, with bytes of its own, at its level.
-pub(crate) fn own(alloc: Global, event: &Event<'_>) -> Result<(u32, Step), AllocError> {
+pub(crate) fn own(event: &Event<'_>) -> Result<(u32, Step), AllocError> {
     Ok(match *event {
-        Event::Leaf { level, scalar, .. } => (level, Step::Leaf(own_scalar(alloc, scalar)?)),
+        Event::Leaf { level, scalar, .. } => (level, Step::Leaf(own_scalar(scalar)?)),
         Event::Null { level, .. } => (level, Step::Null),
         Event::Empty { level, .. } => (level, Step::Empty),
         Event::Enter {
@@ -36,32 +36,32 @@ pub(crate) fn own(alloc: Global, event: &Event<'_>) -> Result<(u32, Step), Alloc
 }
 
 /// The same scalar, with bytes of its own.
-fn own_scalar(alloc: Global, scalar: Scalar<'_>) -> Result<Atom, AllocError> {
+fn own_scalar(scalar: Scalar<'_>) -> Result<Atom, AllocError> {
     let atom = match scalar {
-        Scalar::Custom(bytes) => Atom::Custom(Vec::from_slice(alloc, bytes)?),
-        Scalar::Ascii(text) => Atom::Ascii(String::from_str(alloc, text)?),
+        Scalar::Custom(bytes) => Atom::Custom(Vec::from_slice(bytes)?),
+        Scalar::Ascii(text) => Atom::Ascii(String::from_str(text)?),
         Scalar::Bigint(number) => Atom::Bigint(number),
-        Scalar::Blob(bytes) => Atom::Blob(Vec::from_slice(alloc, bytes)?),
+        Scalar::Blob(bytes) => Atom::Blob(Vec::from_slice(bytes)?),
         Scalar::Boolean(value) => Atom::Boolean(value),
         Scalar::Counter(number) => Atom::Counter(number),
         Scalar::Decimal { scale, unscaled } => Atom::Decimal {
             scale,
-            unscaled: Vec::from_slice(alloc, unscaled)?,
+            unscaled: Vec::from_slice(unscaled)?,
         },
         Scalar::Double(bytes) => Atom::Double(bytes),
         Scalar::Float(bytes) => Atom::Float(bytes),
         Scalar::Int(number) => Atom::Int(number),
         Scalar::Timestamp(number) => Atom::Timestamp(number),
         Scalar::Uuid(bytes) => Atom::Uuid(bytes),
-        Scalar::Varchar(text) => Atom::Varchar(String::from_str(alloc, text)?),
-        Scalar::Varint(bytes) => Atom::Varint(Vec::from_slice(alloc, bytes)?),
+        Scalar::Varchar(text) => Atom::Varchar(String::from_str(text)?),
+        Scalar::Varint(bytes) => Atom::Varint(Vec::from_slice(bytes)?),
         Scalar::Timeuuid(bytes) => Atom::Timeuuid(bytes),
         Scalar::Inet(address) => Atom::Inet(address),
         Scalar::Date(days) => Atom::Date(days),
         Scalar::Time(number) => Atom::Time(number),
         Scalar::Smallint(number) => Atom::Smallint(number),
         Scalar::Tinyint(number) => Atom::Tinyint(number),
-        Scalar::Raw(bytes) => Atom::Raw(Vec::from_slice(alloc, bytes)?),
+        Scalar::Raw(bytes) => Atom::Raw(Vec::from_slice(bytes)?),
     };
     Ok(atom)
 }

@@ -1,7 +1,7 @@
 // Written by dist/erase from crates/cqlp_build_cells/src/values.rt.
 //! Values, of the events that are held.
 
-use crate::kit_std::prelude::{String, Vec};
+use crate::kit_std::prelude::{KitVec, String, Vec};
 use crate::cqlp_build_cells::held::{CellEvents, Fault};
 use crate::cqlp_build_cells::step::Step;
 use crate::cqlp_kind::Kind;
@@ -71,13 +71,13 @@ impl CellEvents {
 
     /// Takes this many values of this type, and then the end of the value around them.
     fn items(&mut self, level: usize, inner: &TypeTree, count: u32) -> Vec<Value> {
-        let mut items = Vec::new(self.alloc);
+        let mut items = Vec::new();
         for _ in 0..count {
             let item = self.value(level + 1, inner);
             if self.fault.is_some() {
                 return items;
             }
-            if items.push(item).is_err() {
+            if items.kit_push(item).is_err() {
                 self.fault = Some(Fault::NoMemory);
                 return items;
             }
@@ -94,14 +94,14 @@ impl CellEvents {
         values: &TypeTree,
         count: u32,
     ) -> Vec<(Value, Value)> {
-        let mut pairs = Vec::new(self.alloc);
+        let mut pairs = Vec::new();
         for _ in 0..count {
             let key = self.value(level + 1, keys);
             let value = self.value(level + 1, values);
             if self.fault.is_some() {
                 return pairs;
             }
-            if pairs.push((key, value)).is_err() {
+            if pairs.kit_push((key, value)).is_err() {
                 self.fault = Some(Fault::NoMemory);
                 return pairs;
             }
@@ -112,7 +112,7 @@ impl CellEvents {
 
     /// Takes the first fields of a tuple of these types, and then its end.
     fn types(&mut self, level: usize, types: &[TypeTree]) -> Vec<Value> {
-        let mut items = Vec::new(self.alloc);
+        let mut items = Vec::new();
         for tree in types {
             if self.is_at_leave() {
                 self.leave(level, items.len());
@@ -122,7 +122,7 @@ impl CellEvents {
             if self.fault.is_some() {
                 return items;
             }
-            if items.push(item).is_err() {
+            if items.kit_push(item).is_err() {
                 self.fault = Some(Fault::NoMemory);
                 return items;
             }
@@ -133,7 +133,7 @@ impl CellEvents {
 
     /// Takes the first fields of a user-defined type of these types, and then its end.
     fn fields(&mut self, level: usize, fields: &[(String, TypeTree)]) -> Vec<Value> {
-        let mut items = Vec::new(self.alloc);
+        let mut items = Vec::new();
         for (_, tree) in fields {
             if self.is_at_leave() {
                 self.leave(level, items.len());
@@ -143,7 +143,7 @@ impl CellEvents {
             if self.fault.is_some() {
                 return items;
             }
-            if items.push(item).is_err() {
+            if items.kit_push(item).is_err() {
                 self.fault = Some(Fault::NoMemory);
                 return items;
             }

@@ -1,8 +1,8 @@
 // Written by dist/erase from crates/cqlp_capture/src/gathered.rt.
 //! Bytes out of pieces.
 
-use crate::kit_std::prelude::{Vec};
-use crate::kit_std::alloc::{AllocError, Allocator};
+use crate::kit_std::prelude::{KitVec, Vec};
+use crate::kit_std::alloc::{AllocError};
 
 /// Where bytes lie that were wanted.
 #[derive(Clone, Copy)]
@@ -21,20 +21,21 @@ pub(crate) struct FoundBytes {
 }
 
 /// The first of the bytes that are wanted, in memory that is taken once: its capacity is the room, for as long as it lives.
-pub(crate) struct GatheredBytes<A: Allocator> {
+pub(crate) struct GatheredBytes {
     /// The bytes, and after them what is left of longer ones before them, so that a piece is copied over them at once.
-    bytes: Vec<u8, A>,
+    bytes: Vec<u8>,
     len: usize,
     /// Whether they were found, so that the next bytes that are wanted have not begun.
     found: bool,
     room: usize,
 }
 
-impl<A: Allocator> GatheredBytes<A> {
+impl GatheredBytes {
     /// With room for this many bytes. This is the one call that takes memory.
-    pub fn new(alloc: A, room: usize) -> Result<Self, AllocError> {
+    #[cfg_attr(not(feature = "cli"), inline)]
+    pub fn new(room: usize) -> Result<Self, AllocError> {
         Ok(GatheredBytes {
-            bytes: Vec::with_capacity(alloc, room)?,
+            bytes: Vec::kit_with_capacity(room)?,
             len: 0,
             found: false,
             room,
@@ -42,16 +43,21 @@ impl<A: Allocator> GatheredBytes<A> {
     }
 
     /// How many of the bytes that are wanted have come.
+    #[cfg_attr(not(feature = "cli"), inline)]
+    #[must_use]
     pub fn pending(&self) -> usize {
         if self.found { 0 } else { self.len }
     }
 
     /// How many bytes its memory has places for.
+    #[cfg_attr(not(feature = "cli"), inline)]
+    #[must_use]
     pub fn capacity(&self) -> usize {
         self.bytes.capacity()
     }
 
     /// Removes all bytes, and keeps the memory.
+    #[cfg_attr(not(feature = "cli"), inline)]
     pub fn clear(&mut self) {
         self.found = false;
         self.len = 0;
@@ -99,6 +105,7 @@ impl<A: Allocator> GatheredBytes<A> {
     }
 
     /// Adds a piece at the end.
+    #[cfg_attr(not(feature = "cli"), inline)]
     fn append(&mut self, piece: &[u8]) {
         let start = self.len;
         let end = start + piece.len();
@@ -113,7 +120,8 @@ impl<A: Allocator> GatheredBytes<A> {
 }
 
 /// Adds this many zeros.
-fn add_zeros<A: Allocator>(bytes: &mut Vec<u8, A>, count: usize) {
+#[cfg_attr(not(feature = "cli"), inline)]
+fn add_zeros(bytes: &mut Vec<u8>, count: usize) {
     for _ in 0..count {
         bytes.push_reserved(0);
     }

@@ -1,8 +1,8 @@
 // Written by dist/erase from crates/cqlp_capture/src/interfaces.rt.
 //! The interfaces of a section.
 
-use crate::kit_std::prelude::{Vec};
-use crate::kit_std::alloc::{AllocError, Allocator};
+use crate::kit_std::prelude::{KitVec, Vec};
+use crate::kit_std::alloc::{AllocError};
 
 /// What packets of an interface need of it.
 #[derive(Clone, Copy)]
@@ -39,25 +39,29 @@ pub(crate) enum TableChange {
 }
 
 /// The interfaces of a section, in memory that is taken once: its capacity is the room, for as long as it lives.
-pub(crate) struct InterfaceTable<A: Allocator> {
-    entries: Vec<KnownInterface, A>,
+pub(crate) struct InterfaceTable {
+    entries: Vec<KnownInterface>,
     room: usize,
 }
 
-impl<A: Allocator> InterfaceTable<A> {
+impl InterfaceTable {
     /// With room for this many interfaces. This is the one call that takes memory.
-    pub fn new(alloc: A, room: usize) -> Result<Self, AllocError> {
-        let entries = Vec::with_capacity(alloc, room)?;
+    #[cfg_attr(not(feature = "cli"), inline)]
+    pub fn new(room: usize) -> Result<Self, AllocError> {
+        let entries = Vec::kit_with_capacity(room)?;
         Ok(InterfaceTable { entries, room })
     }
 
     /// The interfaces, of which the first has the number 0.
     #[inline]
+    #[must_use]
     pub fn known(&self) -> &[KnownInterface] {
         self.entries.as_slice()
     }
 
     /// How many interfaces its memory has places for.
+    #[cfg_attr(not(feature = "cli"), inline)]
+    #[must_use]
     pub fn capacity(&self) -> usize {
         self.entries.capacity()
     }

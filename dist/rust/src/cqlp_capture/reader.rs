@@ -1,7 +1,6 @@
 // Written by dist/erase from crates/cqlp_capture/src/reader.rt.
 //! The reader of captures.
 
-use crate::kit_std::prelude::{Clone};
 use crate::cqlp_capture::block::{Block, may_have_length};
 use crate::cqlp_capture::event::{CaptureEnd, CaptureEvent, CaptureStep, EventOutline};
 use crate::cqlp_capture::file::ByteOrder;
@@ -12,7 +11,6 @@ use crate::cqlp_capture::pcap::read_packet;
 use crate::cqlp_capture::pcapng::{read_enhanced, room_after};
 use crate::cqlp_capture::place::{FARTHEST, Place, RecordForm, Stage};
 use crate::cqlp_capture::refusal::{CaptureRefusal, NewReaderError};
-use crate::kit_std::alloc::{Allocator, Global};
 
 /// What one step makes of the input.
 #[derive(Clone, Copy)]
@@ -55,32 +53,30 @@ pub(crate) enum CaptureAdvance {
 /// Reads a capture file, pcap or pcapng, one event per call, from pieces of any size. All its memory is taken when it is
 /// made: room for the bytes of one packet, as many as the caller's limit says, into which a packet is copied that does not
 /// lie whole in a piece, and for as many interfaces.
-pub struct CaptureReader<A: Allocator = Global> {
+pub struct CaptureReader {
     limits: CaptureLimits,
     place: Place,
-    interfaces: InterfaceTable<A>,
-    gathered: GatheredBytes<A>,
+    interfaces: InterfaceTable,
+    gathered: GatheredBytes,
     refusal: Option<CaptureRefusal>,
 }
 
-impl<A: Allocator + Clone> CaptureReader<A> {
+impl CaptureReader {
     /// A reader at the start of a file, with room for a packet of the greatest length that the limits allow and for as many
     /// interfaces as they allow: two requests for memory, and the only ones.
     ///
     /// # Errors
     ///
     /// Limits out of their ranges, and memory that is refused.
-    pub fn new(alloc: A, limits: CaptureLimits) -> Result<Self, NewReaderError> {
+    #[cfg_attr(not(feature = "cli"), inline)]
+    pub fn new(limits: CaptureLimits) -> Result<Self, NewReaderError> {
         if !limits.is_in_range() {
             return Err(NewReaderError::BadLimits);
         }
-        let Ok(copy) = alloc.clone() else {
+        let Ok(gathered) = GatheredBytes::new(limits.packet as usize) else {
             return Err(NewReaderError::NoMemory);
         };
-        let Ok(gathered) = GatheredBytes::new(alloc, limits.packet as usize) else {
-            return Err(NewReaderError::NoMemory);
-        };
-        let Ok(interfaces) = InterfaceTable::new(copy, limits.interfaces as usize) else {
+        let Ok(interfaces) = InterfaceTable::new(limits.interfaces as usize) else {
             return Err(NewReaderError::NoMemory);
         };
         Ok(CaptureReader {
@@ -96,9 +92,11 @@ impl<A: Allocator + Clone> CaptureReader<A> {
     }
 }
 
-impl<A: Allocator> CaptureReader<A> {
+impl CaptureReader {
     /// The next event that the input leads to. The caller hands in the bytes after those that were used, and goes on
     /// until more are wanted. A refusal is final: each later call says it again.
+    #[cfg_attr(not(feature = "cli"), inline)]
+    #[must_use]
     pub fn next<'a>(&'a mut self, input: &'a [u8]) -> CaptureStep<'a> {
         match self.advance(input) {
             CaptureAdvance::More { used } => CaptureStep::More { used },
@@ -118,6 +116,8 @@ impl<A: Allocator> CaptureReader<A> {
     }
 
     /// How the file ends, if it ends after the bytes that were used.
+    #[cfg_attr(not(feature = "cli"), inline)]
+    #[must_use]
     pub fn finish(&self) -> CaptureEnd {
         if let Some(refusal) = self.refusal {
             return CaptureEnd::Refused(refusal);
@@ -133,6 +133,7 @@ impl<A: Allocator> CaptureReader<A> {
     }
 
     /// Begins anew, at the start of another file. The memory is kept.
+    #[cfg_attr(not(feature = "cli"), inline)]
     pub fn restart(&mut self) {
         self.interfaces.apply(TableChange::Forget);
         self.gathered.clear();
@@ -144,16 +145,21 @@ impl<A: Allocator> CaptureReader<A> {
     }
 
     /// The bytes of a packet that the reader has memory for: the limit on a packet, for as long as it lives.
+    #[cfg_attr(not(feature = "cli"), inline)]
+    #[must_use]
     pub fn capacity(&self) -> usize {
         self.gathered.capacity()
     }
 
     /// The interfaces that the reader has memory for: the limit on interfaces, for as long as it lives.
+    #[cfg_attr(not(feature = "cli"), inline)]
+    #[must_use]
     pub fn interface_capacity(&self) -> usize {
         self.interfaces.capacity()
     }
 
     /// The work of a call, with nothing borrowed in its result.
+    #[cfg_attr(not(feature = "cli"), inline)]
     fn advance(&mut self, input: &[u8]) -> CaptureAdvance {
         if let Some(refusal) = self.refusal {
             return CaptureAdvance::Refused(refusal);
@@ -162,6 +168,7 @@ impl<A: Allocator> CaptureReader<A> {
     }
 
     /// The steps of a call, of a file that was not refused.
+    #[cfg_attr(not(feature = "cli"), inline)]
     fn go_ahead(&mut self, input: &[u8]) -> CaptureAdvance {
         let mut from = 0;
         loop {
@@ -357,6 +364,7 @@ impl<A: Allocator> CaptureReader<A> {
     }
 
     /// One step of any kind, whose bytes may come in pieces.
+    #[cfg_attr(not(feature = "cli"), inline)]
     fn take_bytes(&mut self, input: &[u8]) -> StepTaken {
         let Some(found) = self.gathered.gather(self.place.stage.wanted(), input) else {
             return StepTaken::More;
@@ -388,6 +396,7 @@ impl<A: Allocator> CaptureReader<A> {
     }
 
     /// Passes over bytes of a block up to an offset, as many as the input has.
+    #[cfg_attr(not(feature = "cli"), inline)]
     fn pass(&mut self, block: Block, until: u64, input: &[u8]) -> StepTaken {
         self.gathered.clear();
         if input.is_empty() {
@@ -404,6 +413,7 @@ impl<A: Allocator> CaptureReader<A> {
     }
 
     /// The event that `advance` made of this input.
+    #[cfg_attr(not(feature = "cli"), inline)]
     fn lend<'a>(&'a self, input: &'a [u8], what: EventOutline, lies: BytesPlace) -> CaptureEvent<'a> {
         match what {
             EventOutline::Section(form) => CaptureEvent::Section(form),

@@ -1,14 +1,12 @@
 // Written by dist/erase from crates/cqlp_capture_events/src/capturing.rt.
 //! A capture whose frames are written.
 
-use crate::kit_host::prelude::{AllocGlobal};
 use crate::cqlp_capture_events::events::Events;
 use crate::cqlp_capture_events::words::EventsWords;
 use crate::cqlp_capture_streams::{
     CaptureInput, StreamsFault, StreamsLimits, conclude_capture, read_capture,
 };
 use crate::cqlp_note::Target;
-use crate::kit_std::alloc::Global;
 
 /// Reads the frames on the connections of a capture with nodes that listen on these ports, within these limits: on the connection with this
 /// number, or on all. Writes a line for each event to `out`, and what the capture was, or the fault line, to `err`. Answers the exit status
@@ -16,7 +14,6 @@ use crate::kit_std::alloc::Global;
 ///
 /// After a fault nothing more is asked of what failed.
 pub(crate) fn write_events<R: CaptureInput, O: Target, E: Target>(
-    alloc: Global,
     limits: StreamsLimits,
     ports: &[u16],
     connection: Option<u64>,
@@ -24,7 +21,7 @@ pub(crate) fn write_events<R: CaptureInput, O: Target, E: Target>(
     out: O,
     err: E,
 ) -> (u8, O, E) {
-    let mut events = match Events::new(alloc, connection, out) {
+    let mut events = match Events::new(connection, out) {
         Ok(events) => events,
         Err(out) => {
             let answer = Err(StreamsFault::NoMemory);
@@ -33,7 +30,7 @@ pub(crate) fn write_events<R: CaptureInput, O: Target, E: Target>(
             return (status, out, err);
         }
     };
-    let answer = read_capture(alloc, limits, ports, input, &mut events);
+    let answer = read_capture(limits, ports, input, &mut events);
     let (out, unread) = events.into_parts();
     let (status, err) = conclude_capture(&answer, ports, &EventsWords { unread }, err);
     (status, out, err)

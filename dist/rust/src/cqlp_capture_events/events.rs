@@ -1,14 +1,14 @@
 // Written by dist/erase from crates/cqlp_capture_events/src/events.rt.
 //! What listens to the connections of a capture.
 
-use crate::kit_host::prelude::{AllocGlobal, Clone, ToCopy, Vec, vec};
+use crate::kit_host::prelude::{Vec, vec};
 use crate::cqlp_capture_events::table::Table;
 use crate::cqlp_capture_frames::ReportFault;
 use crate::cqlp_capture_streams::{ConnectionEvent, Listener, StreamsFault};
 use crate::cqlp_note::Target;
 use crate::cqlp_tcp_connections::Delivery;
 use crate::cqlp_text::{Buffered, TextWriter};
-use crate::kit_std::alloc::{AllocError, Allocator, Global};
+use crate::kit_std::alloc::{AllocError};
 
 /// How many bytes of lines wait at most.
 const ROOM: usize = 65_536;
@@ -16,18 +16,18 @@ const ROOM: usize = 65_536;
 /// Reads the frames on the connections of a capture, and writes a line for each event, when its last byte is there. Memory for a connection is
 /// taken as it begins, and for the decoder of a frame as that does, and is given back. A frame that begins while as many are read as there may
 /// be is passed over, and counted.
-pub struct Events<O: Target, A: Allocator = Global> {
+pub struct Events<O: Target> {
     /// The connection whose lines are written, if only one's are.
     asked: Option<u64>,
-    table: Table<A>,
-    writer: TextWriter<Buffered<O, A>>,
+    table: Table,
+    writer: TextWriter<Buffered<O>>,
 }
 
-impl<O: Target, A: Allocator + Clone> Events<O, A> {
+impl<O: Target> Events<O> {
     /// Nothing is watched, and lines go to this output: those of the connection with this number, or of all. Takes memory for lines; where it is
     /// not granted, the output is given back.
-    pub fn new(alloc: A, asked: Option<u64>, out: O) -> Result<Self, O> {
-        match take_memory(alloc) {
+    pub fn new(asked: Option<u64>, out: O) -> Result<Self, O> {
+        match take_memory() {
             Ok((table, buffer)) => Ok(Events {
                 asked,
                 table,
@@ -93,11 +93,11 @@ impl<O: Target, A: Allocator + Clone> Events<O, A> {
 }
 
 /// Takes the lines of an event, and passes them on, also where memory was refused.
-fn put_delivery<W: Target, A: Allocator + Clone, B: Allocator>(
-    table: &mut Table<A>,
+fn put_delivery<W: Target>(
+    table: &mut Table,
     delivered: &Delivery,
     bytes: &[u8],
-    writer: &mut TextWriter<Buffered<W, B>>,
+    writer: &mut TextWriter<Buffered<W>>,
 ) -> Result<(), ReportFault> {
     match table.hear(delivered, bytes, writer) {
         Ok(()) => Ok(writer.pass_on()?),
@@ -110,13 +110,13 @@ fn put_delivery<W: Target, A: Allocator + Clone, B: Allocator>(
 }
 
 /// A table without connections, and a buffer.
-fn take_memory<A: Allocator + Clone>(alloc: A) -> Result<(Table<A>, Vec<u8, A>), AllocError> {
-    let table = Table::new(alloc.to_copy()?)?;
-    let buffer = vec![in alloc; 0; ROOM]?;
+fn take_memory() -> Result<(Table, Vec<u8>), AllocError> {
+    let table = Table::new()?;
+    let buffer = vec![0; ROOM]?;
     Ok((table, buffer))
 }
 
-impl<O: Target, A: Allocator + Clone> Listener for Events<O, A> {
+impl<O: Target> Listener for Events<O> {
     fn hear(&mut self, event: &ConnectionEvent<'_>) -> Result<(), StreamsFault> {
         self.take(event)
     }

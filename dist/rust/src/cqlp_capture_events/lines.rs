@@ -9,7 +9,6 @@ use crate::cqlp_note::{Header, Reason};
 use crate::cqlp_tcp_reassembly::GapCause;
 use crate::cqlp_text::{Pen, TextWriter};
 use crate::cqlp_type::TypeTable;
-use crate::kit_std::alloc::Allocator;
 
 /// The lines of one direction of a connection.
 #[derive(Clone, Copy)]
@@ -30,7 +29,7 @@ fn put_event<P: Pen>(
     writer.put_event(at, event)
 }
 
-impl<A: Allocator> Transcript<A> for Lines {
+impl Transcript for Lines {
     type Fault = ReportFault;
 
     fn no_memory() -> ReportFault {
@@ -42,7 +41,7 @@ impl<A: Allocator> Transcript<A> for Lines {
         _at: u64,
         _header: &Header,
         _writer: &mut TextWriter<P>,
-    ) -> Result<Option<TypeTable<A>>, ReportFault> {
+    ) -> Result<Option<TypeTable>, ReportFault> {
         Ok(None)
     }
 
@@ -95,7 +94,7 @@ impl<A: Allocator> Transcript<A> for Lines {
 
     fn end<P: Pen>(
         &mut self,
-        _types: &TypeTable<A>,
+        _types: &TypeTable,
         _writer: &mut TextWriter<P>,
     ) -> Result<(), ReportFault> {
         Ok(())

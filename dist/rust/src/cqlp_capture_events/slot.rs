@@ -1,26 +1,25 @@
 // Written by dist/erase from crates/cqlp_capture_events/src/slot.rt.
 //! One connection that is watched.
 
-use crate::kit_host::prelude::{AllocGlobal, Clone, ToCopy};
 use crate::cqlp_capture_events::limits::LIMITS;
 use crate::cqlp_capture_events::lines::Lines;
 use crate::cqlp_capture_frames::{Direction, LinePlace, ReportFault};
 use crate::cqlp_tcp_connections::{Delivery, Way};
 use crate::cqlp_text::{Pen, TextWriter};
-use crate::kit_std::alloc::{AllocError, Allocator, Global};
+use crate::kit_std::alloc::{AllocError};
 
 /// The two directions of a connection.
-pub(crate) struct Slot<A: Allocator = Global> {
-    requests: Direction<A>,
-    responses: Direction<A>,
+pub(crate) struct Slot {
+    requests: Direction,
+    responses: Direction,
 }
 
-impl<A: Allocator + Clone> Slot<A> {
+impl Slot {
     /// A connection of which nothing came.
-    pub(crate) fn new(alloc: A) -> Result<Self, AllocError> {
+    pub(crate) fn new() -> Result<Self, AllocError> {
         Ok(Slot {
-            requests: Direction::new(alloc.to_copy()?, LIMITS, false),
-            responses: Direction::new(alloc, LIMITS, true),
+            requests: Direction::new(LIMITS, false),
+            responses: Direction::new(LIMITS, true),
         })
     }
 
@@ -71,8 +70,8 @@ impl<A: Allocator + Clone> Slot<A> {
 }
 
 /// Takes what this direction delivers.
-fn hear_in<A: Allocator + Clone, P: Pen>(
-    direction: &mut Direction<A>,
+fn hear_in<P: Pen>(
+    direction: &mut Direction,
     has_room: bool,
     delivered: &Delivery,
     bytes: &[u8],

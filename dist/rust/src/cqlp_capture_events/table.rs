@@ -1,32 +1,29 @@
 // Written by dist/erase from crates/cqlp_capture_events/src/table.rt.
 //! The connections that are watched.
 
-use crate::kit_host::prelude::{AllocGlobal, Clone, ToCopy};
 use crate::cqlp_capture_events::limits::OPEN_FRAMES;
 use crate::cqlp_capture_events::slot::Slot;
 use crate::cqlp_capture_frames::ReportFault;
 use crate::cqlp_tcp_connections::Delivery;
 use crate::cqlp_text::{Pen, TextWriter};
-use crate::kit_std::alloc::{AllocError, Allocator, Global};
+use crate::kit_std::alloc::{AllocError};
 use crate::kit_std::collections::BTreeMap;
 
 /// The connections that are watched, by their numbers. Memory is taken for each as it begins, and for the decoder of a frame as that does, and
 /// is given back.
-pub(crate) struct Table<A: Allocator = Global> {
-    alloc: A,
-    slots: BTreeMap<u64, Slot<A>, A>,
+pub(crate) struct Table {
+    slots: BTreeMap<u64, Slot>,
     /// How many directions read a frame.
     reading: usize,
     /// How many frames were not read, as there was no room for their decoders.
     unread: u64,
 }
 
-impl<A: Allocator + Clone> Table<A> {
+impl Table {
     /// No connections.
-    pub(crate) fn new(alloc: A) -> Result<Self, AllocError> {
-        let slots = BTreeMap::new(alloc.to_copy()?);
+    pub(crate) fn new() -> Result<Self, AllocError> {
+        let slots = BTreeMap::new();
         Ok(Table {
-            alloc,
             slots,
             reading: 0,
             unread: 0,
@@ -40,7 +37,7 @@ impl<A: Allocator + Clone> Table<A> {
 
     /// The connection with this number begins. Where memory is refused, nothing changes.
     pub(crate) fn begin(&mut self, number: u64) -> Result<(), AllocError> {
-        let slot = Slot::new(self.alloc.to_copy()?)?;
+        let slot = Slot::new()?;
         match self.slots.insert(number, slot) {
             Ok(_) => Ok(()),
             Err(_) => Err(AllocError),
@@ -76,8 +73,8 @@ impl<A: Allocator + Clone> Table<A> {
 }
 
 /// Takes what the streams of this connection deliver.
-fn hear_in<A: Allocator + Clone, P: Pen>(
-    slot: &mut Slot<A>,
+fn hear_in<P: Pen>(
+    slot: &mut Slot,
     reading: &mut usize,
     unread: &mut u64,
     delivered: &Delivery,

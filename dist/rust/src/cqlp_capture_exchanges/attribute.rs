@@ -10,15 +10,14 @@ use crate::cqlp_capture_exchanges::reply::{Reply, error_name};
 use crate::cqlp_capture_exchanges::summary_by::Attribute;
 use crate::cqlp_grammar::SinkFault;
 use crate::cqlp_note::{Opcode, Target};
-use crate::cqlp_observer::{Kept, Message};
+use crate::cqlp_observer::{Kept, SeenMessage};
 use crate::cqlp_text::{Pen, TextWriter, opcode_name};
-use crate::kit_std::alloc::Allocator;
 
 /// Appends an attribute of a request on this connection, of which this came. Takes no memory.
-pub(crate) fn append_attribute<W: Target, A: Allocator>(
+pub(crate) fn append_attribute<W: Target>(
     attribute: Attribute,
     connection: &Connection,
-    request: &Message<Kept<A>>,
+    request: &SeenMessage<Kept>,
     outcome: &Outcome,
     target: &mut W,
 ) -> Result<(), SinkFault> {
@@ -59,11 +58,11 @@ fn put_id_name<P: Pen>(
     put_id(writer, id, is_whole)
 }
 
-fn put_attribute<P: Pen, A: Allocator>(
+fn put_attribute<P: Pen>(
     writer: &mut TextWriter<P>,
     attribute: Attribute,
     connection: &Connection,
-    request: &Message<Kept<A>>,
+    request: &SeenMessage<Kept>,
     outcome: &Outcome,
 ) -> Result<(), SinkFault> {
     match attribute {

@@ -6,16 +6,15 @@ use crate::cqlp_capture_exchanges::prepared::Known;
 use crate::cqlp_capture_exchanges::statement::statement_of;
 use crate::cqlp_bound_values::{Binding, put_values, put_values_members, values_bound_by};
 use crate::cqlp_grammar::SinkFault;
-use crate::cqlp_observer::{Kept, Message};
+use crate::cqlp_observer::{Kept, SeenMessage};
 use crate::cqlp_text::{Pen, TextWriter};
-use crate::kit_std::alloc::Allocator;
 
 /// Takes what a line has of the values that a request binds, if they are to be written.
-pub(crate) fn put_values_if<P: Pen, A: Allocator>(
+pub(crate) fn put_values_if<P: Pen>(
     writer: &mut TextWriter<P>,
-    known: &Known<A>,
+    known: &Known,
     shown: ValuesShown,
-    request: &Message<Kept<A>>,
+    request: &SeenMessage<Kept>,
 ) -> Result<(), SinkFault> {
     match shown {
         ValuesShown::No => writer.put(b""),
@@ -24,11 +23,11 @@ pub(crate) fn put_values_if<P: Pen, A: Allocator>(
 }
 
 /// Likewise the members of an object.
-pub(crate) fn put_values_members_if<P: Pen, A: Allocator>(
+pub(crate) fn put_values_members_if<P: Pen>(
     writer: &mut TextWriter<P>,
-    known: &Known<A>,
+    known: &Known,
     shown: ValuesShown,
-    request: &Message<Kept<A>>,
+    request: &SeenMessage<Kept>,
 ) -> Result<(), SinkFault> {
     match shown {
         ValuesShown::No => writer.put(b""),
@@ -37,7 +36,7 @@ pub(crate) fn put_values_members_if<P: Pen, A: Allocator>(
 }
 
 /// What a request binds, with the types of its statement, if that is known.
-fn bound_by<'a, A: Allocator>(known: &'a Known<A>, request: &'a Message<Kept<A>>) -> Binding<'a> {
+fn bound_by<'a>(known: &'a Known, request: &'a SeenMessage<Kept>) -> Binding<'a> {
     let header = &request.frame.header;
     let front = request.kept.front();
     let prepared = known.prepared_front(statement_of(header, front));

@@ -1,7 +1,6 @@
 // Written by dist/erase from crates/cqlp_capture_exchanges/src/capturing.rt.
 //! A capture whose exchanges are written.
 
-use crate::kit_host::prelude::{AllocGlobal};
 use crate::cqlp_capture_exchanges::exchanges::Exchanges;
 use crate::cqlp_capture_exchanges::filter::ExchangeFilter;
 use crate::cqlp_capture_exchanges::form::ExchangeForm;
@@ -17,7 +16,6 @@ use crate::cqlp_note::Target;
 use crate::cqlp_observer::Missed;
 use crate::cqlp_statement_file::StatementTexts;
 use crate::cqlp_text::{Pen, TextWriter};
-use crate::kit_std::alloc::Global;
 
 /// Pairs the requests on the connections of a capture with their responses, of nodes that listen on these ports, within these limits. Writes each that the
 /// filter shows to `out` in this form, with these texts of statements where the capture has no PREPARE with the id, and what the capture was, or the fault
@@ -26,7 +24,6 @@ use crate::kit_std::alloc::Global;
 /// Lines are written at once, or in blocks; without memory for a block also at once. The last block is written before the last line. After a fault
 /// nothing more is asked of what failed.
 pub(crate) fn write_exchanges<R: CaptureInput, O: Target, E: Target>(
-    alloc: Global,
     streams: StreamsLimits,
     limits: ExchangeLimits,
     ports: &[u16],
@@ -39,7 +36,7 @@ pub(crate) fn write_exchanges<R: CaptureInput, O: Target, E: Target>(
     err: E,
 ) -> (u8, O, E) {
     let (answer, counts, out) = listen_by(
-        alloc, streams, limits, ports, given, filter, form, buffering, input, out,
+        streams, limits, ports, given, filter, form, buffering, input, out,
     );
     let (status, err) = conclude(streams, limits, ports, &answer, &counts, err);
     (status, out, err)
@@ -64,7 +61,6 @@ impl Counts {
 
 /// Reads the capture, and writes the lines, at once or in blocks. Answers what it was, what was reported, and the output.
 fn listen_by<R: CaptureInput, O: Target>(
-    alloc: Global,
     streams: StreamsLimits,
     limits: ExchangeLimits,
     ports: &[u16],
@@ -77,16 +73,16 @@ fn listen_by<R: CaptureInput, O: Target>(
 ) -> (Result<CaptureRead, StreamsFault>, Counts, O) {
     match buffering {
         Buffering::Line => listen(
-            alloc, streams, limits, ports, given, filter, form, input, out,
+            streams, limits, ports, given, filter, form, input, out,
         ),
-        Buffering::Block => match BlockWriter::new(alloc, out) {
+        Buffering::Block => match BlockWriter::new(out) {
             Ok(blocks) => {
                 listen_in_blocks(
-                    alloc, streams, limits, ports, given, filter, form, input, blocks,
+                    streams, limits, ports, given, filter, form, input, blocks,
                 )
             }
             Err(out) => listen(
-                alloc, streams, limits, ports, given, filter, form, input, out,
+                streams, limits, ports, given, filter, form, input, out,
             ),
         },
     }
@@ -94,7 +90,6 @@ fn listen_by<R: CaptureInput, O: Target>(
 
 /// Reads the capture, and writes the lines in blocks, of which none waits yet.
 fn listen_in_blocks<R: CaptureInput, O: Target>(
-    alloc: Global,
     streams: StreamsLimits,
     limits: ExchangeLimits,
     ports: &[u16],
@@ -105,7 +100,7 @@ fn listen_in_blocks<R: CaptureInput, O: Target>(
     blocks: BlockWriter<O>,
 ) -> (Result<CaptureRead, StreamsFault>, Counts, O) {
     let (read, counts, blocks) = listen(
-        alloc, streams, limits, ports, given, filter, form, input, blocks,
+        streams, limits, ports, given, filter, form, input, blocks,
     );
     let (answer, out) = finish_blocks(read, blocks);
     (answer, counts, out)
@@ -113,7 +108,6 @@ fn listen_in_blocks<R: CaptureInput, O: Target>(
 
 /// Reads the capture, and writes the lines. Answers what it was, what was reported, and the output.
 fn listen<R: CaptureInput, O: Target>(
-    alloc: Global,
     streams: StreamsLimits,
     limits: ExchangeLimits,
     ports: &[u16],
@@ -123,11 +117,11 @@ fn listen<R: CaptureInput, O: Target>(
     input: &mut R,
     out: O,
 ) -> (Result<CaptureRead, StreamsFault>, Counts, O) {
-    let mut exchanges = match Exchanges::new(alloc, limits, given, filter, form, out) {
+    let mut exchanges = match Exchanges::new(limits, given, filter, form, out) {
         Ok(exchanges) => exchanges,
         Err(out) => return (Err(StreamsFault::NoMemory), Counts::none(), out),
     };
-    let read = read_capture(alloc, streams, ports, input, &mut exchanges);
+    let read = read_capture(streams, ports, input, &mut exchanges);
     let answer = finish(&mut exchanges, read);
     let missed = exchanges.missed();
     let (out, sums) = exchanges.into_parts();

@@ -19,9 +19,8 @@ use crate::cqlp_capture_summary::Summary;
 use crate::cqlp_grammar::SinkFault;
 use crate::cqlp_json::put_word;
 use crate::cqlp_note::Target;
-use crate::cqlp_observer::{Facts, Frame, Kept, Message, Opening, Paired};
+use crate::cqlp_observer::{Facts, SeenFrame, Kept, SeenMessage, Opening, Paired};
 use crate::cqlp_text::{Buffered, Pen, TextWriter, opcode_name};
-use crate::kit_std::alloc::Allocator;
 
 /// The names of the fields.
 const NAMES: &str =
@@ -39,29 +38,29 @@ const NO_MESSAGE: &[u8] = b",,,,,,,,,,,,,,,,,,,,,,,,,,,";
 
 /// Takes the record of a report of this connection, in a capture whose first packet came at this time, behind one with the names of the fields if it is
 /// the first, and passes it on.
-pub(crate) fn put_csv<W: Target, A: Allocator, B: Allocator>(
-    writer: &mut TextWriter<Buffered<W, A>>,
-    known: &Known<B>,
+pub(crate) fn put_csv<W: Target>(
+    writer: &mut TextWriter<Buffered<W>>,
+    known: &Known,
     first: Option<u64>,
-    summary: &Summary<A>,
+    summary: &Summary,
     connection: &Connection,
-    report: &Report<B>,
+    report: &Report,
 ) -> Result<(), SinkFault> {
     put_text(writer, known, first, summary, connection, report)?;
     writer.pass_on()
 }
 
 /// Takes the record with the names of the fields, if there is no other, and passes it on.
-pub(crate) fn put_names<W: Target, A: Allocator>(
-    writer: &mut TextWriter<Buffered<W, A>>,
-    summary: &Summary<A>,
+pub(crate) fn put_names<W: Target>(
+    writer: &mut TextWriter<Buffered<W>>,
+    summary: &Summary,
 ) -> Result<(), SinkFault> {
     put_names_if_first(writer, summary)?;
     writer.pass_on()
 }
 
 /// Counts a record.
-pub(crate) fn note_record<A: Allocator>(summary: &mut Summary<A>) {
+pub(crate) fn note_record(summary: &mut Summary) {
     let outcome = Outcome {
         is_answered: true,
         reply: None,
@@ -74,21 +73,21 @@ pub(crate) fn note_record<A: Allocator>(summary: &mut Summary<A>) {
     note_outcome(summary, 1, &outcome);
 }
 
-fn put_text<P: Pen, A: Allocator, B: Allocator>(
+fn put_text<P: Pen>(
     writer: &mut TextWriter<P>,
-    known: &Known<B>,
+    known: &Known,
     first: Option<u64>,
-    summary: &Summary<A>,
+    summary: &Summary,
     connection: &Connection,
-    report: &Report<B>,
+    report: &Report,
 ) -> Result<(), SinkFault> {
     put_names_if_first(writer, summary)?;
     put_record(writer, known, first, connection, report)
 }
 
-fn put_names_if_first<P: Pen, A: Allocator>(
+fn put_names_if_first<P: Pen>(
     writer: &mut TextWriter<P>,
-    summary: &Summary<A>,
+    summary: &Summary,
 ) -> Result<(), SinkFault> {
     if summary.has_no_others() {
         writer.put_str(NAMES)
@@ -98,12 +97,12 @@ fn put_names_if_first<P: Pen, A: Allocator>(
 }
 
 /// Takes the record of a report.
-fn put_record<P: Pen, A: Allocator>(
+fn put_record<P: Pen>(
     writer: &mut TextWriter<P>,
-    known: &Known<A>,
+    known: &Known,
     first: Option<u64>,
     connection: &Connection,
-    report: &Report<A>,
+    report: &Report,
 ) -> Result<(), SinkFault> {
     match report {
         Report::Messages { paired, end } => {
@@ -138,13 +137,13 @@ fn put_protocol<P: Pen>(writer: &mut TextWriter<P>, opening: Opening) -> Result<
 }
 
 /// Takes the record of messages, whose connection ended so where that is why they are reported.
-fn put_paired<P: Pen, A: Allocator>(
+fn put_paired<P: Pen>(
     writer: &mut TextWriter<P>,
-    known: &Known<A>,
+    known: &Known,
     first: Option<u64>,
     connection: &Connection,
     end: Option<ConnectionEnd>,
-    reported: &Paired<Kept<A>>,
+    reported: &Paired<Kept>,
 ) -> Result<(), SinkFault> {
     match reported {
         Paired::Exchange { request, response } => {
@@ -158,13 +157,13 @@ fn put_paired<P: Pen, A: Allocator>(
     }
 }
 
-fn put_exchange<P: Pen, A: Allocator>(
+fn put_exchange<P: Pen>(
     writer: &mut TextWriter<P>,
-    known: &Known<A>,
+    known: &Known,
     first: Option<u64>,
     connection: &Connection,
-    request: &Message<Kept<A>>,
-    response: &Message<Kept<A>>,
+    request: &SeenMessage<Kept>,
+    response: &SeenMessage<Kept>,
 ) -> Result<(), SinkFault> {
     let took = took(&request.frame, &response.frame);
     put_place(writer, "exchange", first, connection, &request.frame)?;
@@ -173,13 +172,13 @@ fn put_exchange<P: Pen, A: Allocator>(
     put_last(writer, took, None)
 }
 
-fn put_unanswered<P: Pen, A: Allocator>(
+fn put_unanswered<P: Pen>(
     writer: &mut TextWriter<P>,
-    known: &Known<A>,
+    known: &Known,
     first: Option<u64>,
     connection: &Connection,
     end: Option<ConnectionEnd>,
-    request: &Message<Kept<A>>,
+    request: &SeenMessage<Kept>,
 ) -> Result<(), SinkFault> {
     put_place(writer, "unanswered", first, connection, &request.frame)?;
     put_request(writer, known, request)?;
@@ -188,12 +187,12 @@ fn put_unanswered<P: Pen, A: Allocator>(
 }
 
 /// Takes the record of a response without a request, or of an event.
-fn put_alone<P: Pen, A: Allocator>(
+fn put_alone<P: Pen>(
     writer: &mut TextWriter<P>,
     reported: &str,
     first: Option<u64>,
     connection: &Connection,
-    response: &Message<Kept<A>>,
+    response: &SeenMessage<Kept>,
 ) -> Result<(), SinkFault> {
     put_place(writer, reported, first, connection, &response.frame)?;
     writer.put(NO_REQUEST)?;
@@ -207,7 +206,7 @@ fn put_place<P: Pen>(
     reported: &str,
     first: Option<u64>,
     connection: &Connection,
-    frame: &Frame,
+    frame: &SeenFrame,
 ) -> Result<(), SinkFault> {
     put_where(writer, reported, first, connection, frame.begun)?;
     put_stream(writer, frame)
@@ -243,7 +242,7 @@ fn put_where_fields<P: Pen>(
     )
 }
 
-fn put_stream<P: Pen>(writer: &mut TextWriter<P>, frame: &Frame) -> Result<(), SinkFault> {
+fn put_stream<P: Pen>(writer: &mut TextWriter<P>, frame: &SeenFrame) -> Result<(), SinkFault> {
     put_fields(writer, &[Value::Signed(i32::from(frame.header.stream))])
 }
 
@@ -265,10 +264,10 @@ fn put_last_fields<P: Pen>(
     put_fields(writer, &[seconds_or_null(time), end_or_null(end)])
 }
 
-fn put_request<P: Pen, A: Allocator>(
+fn put_request<P: Pen>(
     writer: &mut TextWriter<P>,
-    known: &Known<A>,
-    request: &Message<Kept<A>>,
+    known: &Known,
+    request: &SeenMessage<Kept>,
 ) -> Result<(), SinkFault> {
     let front = request.kept.front();
     let count = statements_of(&request.frame.header, front);
@@ -279,7 +278,7 @@ fn put_request<P: Pen, A: Allocator>(
     put_query(writer, &request.kept.facts())
 }
 
-fn put_frame<P: Pen>(writer: &mut TextWriter<P>, frame: &Frame) -> Result<(), SinkFault> {
+fn put_frame<P: Pen>(writer: &mut TextWriter<P>, frame: &SeenFrame) -> Result<(), SinkFault> {
     put_fields(
         writer,
         &[
@@ -327,9 +326,9 @@ fn put_query<P: Pen>(writer: &mut TextWriter<P>, facts: &Facts) -> Result<(), Si
     )
 }
 
-fn put_response<P: Pen, A: Allocator>(
+fn put_response<P: Pen>(
     writer: &mut TextWriter<P>,
-    response: &Message<Kept<A>>,
+    response: &SeenMessage<Kept>,
 ) -> Result<(), SinkFault> {
     let front = response.kept.front();
     let reply = reply_of(&response.frame.header, front);

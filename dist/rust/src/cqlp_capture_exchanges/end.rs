@@ -2,7 +2,7 @@
 //! Ends of connections as text.
 
 use crate::cqlp_grammar::SinkFault;
-use crate::cqlp_tcp_segment::{Address, Endpoint};
+use crate::cqlp_tcp_segment::{IpAddress, Endpoint};
 use crate::cqlp_text::{Pen, TextWriter};
 use crate::kit_host::net::Ipv6Addr;
 
@@ -13,18 +13,18 @@ pub(crate) fn put_end<P: Pen>(writer: &mut TextWriter<P>, end: Endpoint) -> Resu
     writer.put_number(u64::from(end.port))
 }
 
-fn put_host<P: Pen>(writer: &mut TextWriter<P>, address: Address) -> Result<(), SinkFault> {
+fn put_host<P: Pen>(writer: &mut TextWriter<P>, address: IpAddress) -> Result<(), SinkFault> {
     match address {
-        Address::V4(_) => put_ip(writer, address),
-        Address::V6(octets) => put_bracketed(writer, octets),
+        IpAddress::V4(_) => put_ip(writer, address),
+        IpAddress::V6(octets) => put_bracketed(writer, octets),
     }
 }
 
 /// Takes an address as it is written without a port.
-pub(crate) fn put_ip<P: Pen>(writer: &mut TextWriter<P>, address: Address) -> Result<(), SinkFault> {
+pub(crate) fn put_ip<P: Pen>(writer: &mut TextWriter<P>, address: IpAddress) -> Result<(), SinkFault> {
     match address {
-        Address::V4(octets) => put_ipv4(writer, octets),
-        Address::V6(octets) => {
+        IpAddress::V4(octets) => put_ipv4(writer, octets),
+        IpAddress::V6(octets) => {
             let ip = Ipv6Addr::from(octets);
             put_ipv6(writer, ip)
         }
@@ -39,7 +39,7 @@ fn put_ipv4<P: Pen>(writer: &mut TextWriter<P>, octets: [u8; 4]) -> Result<(), S
 /// Takes an IPv6 address in brackets.
 fn put_bracketed<P: Pen>(writer: &mut TextWriter<P>, octets: [u8; 16]) -> Result<(), SinkFault> {
     writer.put(b"[")?;
-    put_ip(writer, Address::V6(octets))?;
+    put_ip(writer, IpAddress::V6(octets))?;
     writer.put(b"]")
 }
 

@@ -1,7 +1,7 @@
 // Written by dist/erase from crates/cqlp_capture_exchanges/src/exchanges.rt.
 //! What listens to the connections of a capture.
 
-use crate::kit_host::prelude::{AllocGlobal, Clone, ToCopy, Vec, vec};
+use crate::kit_host::prelude::{Vec, vec};
 use crate::cqlp_capture_exchanges::filter::ExchangeFilter;
 use crate::cqlp_capture_exchanges::form::ExchangeForm;
 use crate::cqlp_capture_exchanges::pool::ExchangeLimits;
@@ -16,32 +16,31 @@ use crate::cqlp_note::Target;
 use crate::cqlp_observer::Missed;
 use crate::cqlp_statement_file::StatementTexts;
 use crate::cqlp_tcp_connections::{ConnectionTotals, Delivery};
-use crate::kit_std::alloc::{AllocError, Allocator, Global};
+use crate::kit_std::alloc::{AllocError};
 
 /// How many bytes of a line wait at most.
 const ROOM: usize = 4096;
 
 /// Pairs the requests on the connections of a capture with their responses, and writes each that its filter shows, when the last byte of
 /// the response is there. Memory for a connection is taken as it begins, for a message as it waits, and is given back.
-pub struct Exchanges<O: Target, A: Allocator = Global> {
-    table: Table<A>,
+pub struct Exchanges<O: Target> {
+    table: Table,
     /// When the present packet was captured, in nanoseconds since 1970-01-01 00:00:00 UTC.
     present: Option<u64>,
-    reporter: Reporter<O, A>,
+    reporter: Reporter<O>,
 }
 
-impl<O: Target, A: Allocator + Clone> Exchanges<O, A> {
+impl<O: Target> Exchanges<O> {
     /// Nothing is watched, these texts of statements are known, and exchanges go to this output in this form. Takes memory for a line, for 256 statements
     /// and for a summary; where it is not granted, the output is given back.
     pub fn new(
-        alloc: A,
         limits: ExchangeLimits,
         given: StatementTexts,
         filter: ExchangeFilter,
         form: ExchangeForm,
         out: O,
     ) -> Result<Self, O> {
-        match take_memory(alloc, limits, given, form) {
+        match take_memory(limits, given, form) {
             Ok(
                 Room {
                     table,
@@ -113,23 +112,22 @@ impl<O: Target, A: Allocator + Clone> Exchanges<O, A> {
 }
 
 /// A table of no connections, the buffer of a line, room for statements that are prepared, and a summary of those that are asked for.
-struct Room<A: Allocator> {
-    table: Table<A>,
-    buffer: Vec<u8, A>,
-    known: Known<A>,
-    summary: Summary<A>,
+struct Room {
+    table: Table,
+    buffer: Vec<u8>,
+    known: Known,
+    summary: Summary,
 }
 
-fn take_memory<A: Allocator + Clone>(
-    alloc: A,
+fn take_memory(
     limits: ExchangeLimits,
     given: StatementTexts,
     form: ExchangeForm,
-) -> Result<Room<A>, AllocError> {
-    let table = Table::new(alloc.to_copy()?, limits)?;
-    let buffer = vec![in alloc.to_copy()?; 0; ROOM]?;
-    let known = Known::new(alloc.to_copy()?, given)?;
-    let summary = Summary::new(alloc, form.statements())?;
+) -> Result<Room, AllocError> {
+    let table = Table::new(limits)?;
+    let buffer = vec![0; ROOM]?;
+    let known = Known::new(given)?;
+    let summary = Summary::new(form.statements())?;
     Ok(Room {
         table,
         buffer,
@@ -138,7 +136,7 @@ fn take_memory<A: Allocator + Clone>(
     })
 }
 
-impl<O: Target, A: Allocator + Clone> Listener for Exchanges<O, A> {
+impl<O: Target> Listener for Exchanges<O> {
     fn hear(&mut self, event: &ConnectionEvent<'_>) -> Result<(), StreamsFault> {
         self.take(event)
     }

@@ -9,10 +9,9 @@ use crate::cqlp_capture_exchanges::report::Report;
 use crate::cqlp_capture_exchanges::span::{Span, is_short, time_between, took};
 use crate::cqlp_capture_exchanges::statement::{Statement, statement_of};
 use crate::cqlp_note::Opcode;
-use crate::cqlp_observer::{Frame, Kept, Message, Paired};
+use crate::cqlp_observer::{SeenFrame, Kept, SeenMessage, Paired};
 use crate::cqlp_tcp_connections::Ends;
-use crate::cqlp_tcp_segment::{Address, Endpoint};
-use crate::kit_std::alloc::Allocator;
+use crate::cqlp_tcp_segment::{IpAddress, Endpoint};
 use crate::kit_host::net::IpAddr;
 
 /// Ends of connections: with an address, at the port with this number alone if there is one.
@@ -90,12 +89,12 @@ impl ExchangeFilter {
     };
 
     /// Whether what is reported of this connection is shown, where these statements are known and the capture's first packet came at this time.
-    pub(crate) fn shows<A: Allocator>(
+    pub(crate) fn shows(
         &self,
-        known: &Known<A>,
+        known: &Known,
         first: Option<u64>,
         connection: &Connection,
-        report: &Report<A>,
+        report: &Report,
     ) -> bool {
         is_of(self.connection, connection.number)
             && self.is_between(&connection.ends)
@@ -127,12 +126,12 @@ fn is_at(asked: Option<EndFilter>, end: Endpoint) -> bool {
 }
 
 /// Whether a host has this address.
-fn is_host(asked: IpAddr, address: Address) -> bool {
+fn is_host(asked: IpAddr, address: IpAddress) -> bool {
     match (asked, address) {
-        (IpAddr::V4(asked), Address::V4(octets)) => same_bytes(&asked.octets(), &octets),
-        (IpAddr::V6(asked), Address::V6(octets)) => same_bytes(&asked.octets(), &octets),
-        (IpAddr::V4(_), Address::V6(_)) => false,
-        (IpAddr::V6(_), Address::V4(_)) => false,
+        (IpAddr::V4(asked), IpAddress::V4(octets)) => same_bytes(&asked.octets(), &octets),
+        (IpAddr::V6(asked), IpAddress::V6(octets)) => same_bytes(&asked.octets(), &octets),
+        (IpAddr::V4(_), IpAddress::V6(_)) => false,
+        (IpAddr::V6(_), IpAddress::V4(_)) => false,
     }
 }
 
@@ -153,21 +152,21 @@ fn is_of(asked: Option<u64>, number: u64) -> bool {
 }
 
 /// Whether the reply took at least so long.
-fn is_slow<A: Allocator>(least: Option<u64>, report: &Report<A>) -> bool {
+fn is_slow(least: Option<u64>, report: &Report) -> bool {
     match least {
         Some(least) => reported_slow(least, report),
         None => true,
     }
 }
 
-fn reported_slow<A: Allocator>(least: u64, report: &Report<A>) -> bool {
+fn reported_slow(least: u64, report: &Report) -> bool {
     match report {
         Report::Messages { paired, .. } => took_at_least(least, paired),
         Report::Unread { .. } => false,
     }
 }
 
-fn took_at_least<A: Allocator>(least: u64, exchange: &Paired<Kept<A>>) -> bool {
+fn took_at_least(least: u64, exchange: &Paired<Kept>) -> bool {
     match exchange {
         Paired::Exchange { request, response } => {
             is_at_least(least, took(&request.frame, &response.frame))
@@ -184,14 +183,14 @@ fn is_at_least(least: u64, time: Option<Span>) -> bool {
 }
 
 /// Whether the reply is an ERROR or did not come to its end, or there is none to a request, or the connection is not read.
-fn is_trouble<A: Allocator>(report: &Report<A>) -> bool {
+fn is_trouble(report: &Report) -> bool {
     match report {
         Report::Messages { paired, .. } => has_failed(paired),
         Report::Unread { .. } => true,
     }
 }
 
-fn has_failed<A: Allocator>(exchange: &Paired<Kept<A>>) -> bool {
+fn has_failed(exchange: &Paired<Kept>) -> bool {
     match exchange {
         Paired::Exchange { response, .. } => is_failure(&response.frame),
         Paired::Unanswered { .. } => true,
@@ -200,7 +199,7 @@ fn has_failed<A: Allocator>(exchange: &Paired<Kept<A>>) -> bool {
 }
 
 /// Whether a response is an ERROR, or its direction ended before its last byte.
-pub(crate) fn is_failure(response: &Frame) -> bool {
+pub(crate) fn is_failure(response: &SeenFrame) -> bool {
     is_error(response.header.opcode) || is_short(response.extent)
 }
 
@@ -210,21 +209,21 @@ pub(crate) fn is_error(opcode: Opcode) -> bool {
 }
 
 /// Whether the request has the opcode that is asked for.
-fn is_asking<A: Allocator>(asked: Option<Opcode>, report: &Report<A>) -> bool {
+fn is_asking(asked: Option<Opcode>, report: &Report) -> bool {
     match asked {
         Some(opcode) => reported_asking(opcode, report),
         None => true,
     }
 }
 
-fn reported_asking<A: Allocator>(opcode: Opcode, report: &Report<A>) -> bool {
+fn reported_asking(opcode: Opcode, report: &Report) -> bool {
     match report {
         Report::Messages { paired, .. } => asks(opcode, paired),
         Report::Unread { .. } => false,
     }
 }
 
-fn asks<A: Allocator>(opcode: Opcode, exchange: &Paired<Kept<A>>) -> bool {
+fn asks(opcode: Opcode, exchange: &Paired<Kept>) -> bool {
     match exchange {
         Paired::Exchange { request, .. } => has_opcode(opcode, &request.frame),
         Paired::Unanswered { request } => has_opcode(opcode, &request.frame),
@@ -232,26 +231,26 @@ fn asks<A: Allocator>(opcode: Opcode, exchange: &Paired<Kept<A>>) -> bool {
     }
 }
 
-fn has_opcode(opcode: Opcode, frame: &Frame) -> bool {
+fn has_opcode(opcode: Opcode, frame: &SeenFrame) -> bool {
     frame.header.opcode.number() == opcode.number()
 }
 
 /// Whether the reply is of the kind that is asked for.
-fn is_replied<A: Allocator>(asked: Option<ReplyKind>, report: &Report<A>) -> bool {
+fn is_replied(asked: Option<ReplyKind>, report: &Report) -> bool {
     match asked {
         Some(kind) => reported_replied(kind, report),
         None => true,
     }
 }
 
-fn reported_replied<A: Allocator>(kind: ReplyKind, report: &Report<A>) -> bool {
+fn reported_replied(kind: ReplyKind, report: &Report) -> bool {
     match report {
         Report::Messages { paired, .. } => replied_by(kind, paired),
         Report::Unread { .. } => false,
     }
 }
 
-fn replied_by<A: Allocator>(kind: ReplyKind, exchange: &Paired<Kept<A>>) -> bool {
+fn replied_by(kind: ReplyKind, exchange: &Paired<Kept>) -> bool {
     match exchange {
         Paired::Exchange { response, .. } => has_kind(kind, response),
         Paired::Unasked { response } => has_kind(kind, response),
@@ -260,7 +259,7 @@ fn replied_by<A: Allocator>(kind: ReplyKind, exchange: &Paired<Kept<A>>) -> bool
     }
 }
 
-fn has_kind<A: Allocator>(kind: ReplyKind, response: &Message<Kept<A>>) -> bool {
+fn has_kind(kind: ReplyKind, response: &SeenMessage<Kept>) -> bool {
     let reply = reply_of(&response.frame.header, response.kept.front());
     match kind {
         ReplyKind::Result(number) => is_result_of(number, reply),
@@ -284,14 +283,14 @@ fn is_error_with(code: u32, reply: Reply) -> bool {
 }
 
 /// When the first byte of what is reported came.
-fn begun<A: Allocator>(report: &Report<A>) -> Option<u64> {
+fn begun(report: &Report) -> Option<u64> {
     match report {
         Report::Messages { paired, .. } => begun_in(paired),
         Report::Unread { time, .. } => *time,
     }
 }
 
-fn begun_in<A: Allocator>(exchange: &Paired<Kept<A>>) -> Option<u64> {
+fn begun_in(exchange: &Paired<Kept>) -> Option<u64> {
     match exchange {
         Paired::Exchange { request, .. } => request.frame.begun,
         Paired::Unanswered { request } => request.frame.begun,
@@ -324,10 +323,10 @@ fn is_at_most(most: u64, time: Option<Span>) -> bool {
 }
 
 /// Whether the text of a request's statement has the part that is asked for.
-fn is_saying<A: Allocator>(
+fn is_saying(
     asked: &Option<StatementPart>,
-    known: &Known<A>,
-    report: &Report<A>,
+    known: &Known,
+    report: &Report,
 ) -> bool {
     match asked {
         Some(part) => reported_saying(known, part.as_slice(), report),
@@ -335,14 +334,14 @@ fn is_saying<A: Allocator>(
     }
 }
 
-fn reported_saying<A: Allocator>(known: &Known<A>, part: &[u8], report: &Report<A>) -> bool {
+fn reported_saying(known: &Known, part: &[u8], report: &Report) -> bool {
     match report {
         Report::Messages { paired, .. } => paired_says(known, part, paired),
         Report::Unread { .. } => false,
     }
 }
 
-fn paired_says<A: Allocator>(known: &Known<A>, part: &[u8], exchange: &Paired<Kept<A>>) -> bool {
+fn paired_says(known: &Known, part: &[u8], exchange: &Paired<Kept>) -> bool {
     match exchange {
         Paired::Exchange { request, .. } => request_says(known, part, request),
         Paired::Unanswered { request } => request_says(known, part, request),
@@ -350,7 +349,7 @@ fn paired_says<A: Allocator>(known: &Known<A>, part: &[u8], exchange: &Paired<Ke
     }
 }
 
-fn request_says<A: Allocator>(known: &Known<A>, part: &[u8], request: &Message<Kept<A>>) -> bool {
+fn request_says(known: &Known, part: &[u8], request: &SeenMessage<Kept>) -> bool {
     let statement = statement_of(&request.frame.header, request.kept.front());
     says(part, named(known, statement))
 }

@@ -8,17 +8,16 @@ use crate::cqlp_capture_summary::{Occurrence, Summary};
 use crate::cqlp_grammar::SinkFault;
 use crate::cqlp_note::Target;
 use crate::cqlp_text::{Buffered, TextWriter};
-use crate::kit_std::alloc::Allocator;
 
 /// Counts the request of a report, if it has one.
-pub(crate) fn note_by_time<A: Allocator, B: Allocator>(summary: &mut Summary<A>, report: &Report<B>) {
+pub(crate) fn note_by_time(summary: &mut Summary, report: &Report) {
     match outcome_in(report) {
         Some(outcome) => note_outcome(summary, &outcome),
         None => {}
     }
 }
 
-fn note_outcome<A: Allocator>(summary: &mut Summary<A>, outcome: &Outcome) {
+fn note_outcome(summary: &mut Summary, outcome: &Outcome) {
     let occurrence = Occurrence {
         name: b"",
         is_whole_name: true,
@@ -31,9 +30,9 @@ fn note_outcome<A: Allocator>(summary: &mut Summary<A>, outcome: &Outcome) {
 }
 
 /// Takes how many requests took how long, and passes it on.
-pub(crate) fn put_histogram<W: Target, A: Allocator>(
-    writer: &mut TextWriter<Buffered<W, A>>,
-    summary: &Summary<A>,
+pub(crate) fn put_histogram<W: Target>(
+    writer: &mut TextWriter<Buffered<W>>,
+    summary: &Summary,
 ) -> Result<(), SinkFault> {
     summary.put_histogram(writer)?;
     writer.pass_on()

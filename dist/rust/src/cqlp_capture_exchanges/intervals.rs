@@ -11,17 +11,16 @@ use crate::cqlp_grammar::SinkFault;
 use crate::cqlp_note::Target;
 use crate::cqlp_observer::{Kept, Paired};
 use crate::cqlp_text::{Buffered, Pen, TextWriter};
-use crate::kit_std::alloc::Allocator;
 
 /// What came of the request of a report, if it has one.
-pub(crate) fn outcome_in<B: Allocator>(report: &Report<B>) -> Option<Outcome> {
+pub(crate) fn outcome_in(report: &Report) -> Option<Outcome> {
     match report {
         Report::Messages { paired, .. } => outcome_of(paired),
         Report::Unread { .. } => None,
     }
 }
 
-fn outcome_of<B: Allocator>(paired: &Paired<Kept<B>>) -> Option<Outcome> {
+fn outcome_of(paired: &Paired<Kept>) -> Option<Outcome> {
     match paired {
         Paired::Exchange { request, response } => Some(answered_by(request, response)),
         Paired::Unanswered { request } => Some(unanswered(request)),
@@ -38,10 +37,10 @@ fn over_at(outcome: &Outcome) -> Option<u64> {
 }
 
 /// Counts the request of a report, if it has one, in the interval in which it was over.
-pub(crate) fn note_in_interval<A: Allocator, B: Allocator>(
-    summary: &mut Summary<A>,
+pub(crate) fn note_in_interval(
+    summary: &mut Summary,
     seconds: u32,
-    report: &Report<B>,
+    report: &Report,
 )
 {
     match outcome_in(report) {
@@ -50,7 +49,7 @@ pub(crate) fn note_in_interval<A: Allocator, B: Allocator>(
     }
 }
 
-pub(crate) fn note_outcome<A: Allocator>(summary: &mut Summary<A>, seconds: u32, outcome: &Outcome) {
+pub(crate) fn note_outcome(summary: &mut Summary, seconds: u32, outcome: &Outcome) {
     let occurrence = Occurrence {
         name: b"",
         is_whole_name: true,
@@ -63,12 +62,12 @@ pub(crate) fn note_outcome<A: Allocator>(summary: &mut Summary<A>, seconds: u32,
 }
 
 /// Before the request of a report, takes what is written of the interval that is over, or above all of them, and passes it on.
-pub(crate) fn put_if_over<W: Target, A: Allocator, B: Allocator>(
-    writer: &mut TextWriter<Buffered<W, A>>,
+pub(crate) fn put_if_over<W: Target>(
+    writer: &mut TextWriter<Buffered<W>>,
     shown: IntervalsAs,
     seconds: u32,
-    summary: &Summary<A>,
-    report: &Report<B>,
+    summary: &Summary,
+    report: &Report,
 ) -> Result<(), SinkFault> {
     match outcome_in(report) {
         Some(outcome) => put_before(writer, shown, seconds, summary, &outcome),
@@ -76,11 +75,11 @@ pub(crate) fn put_if_over<W: Target, A: Allocator, B: Allocator>(
     }
 }
 
-fn put_before<W: Target, A: Allocator>(
-    writer: &mut TextWriter<Buffered<W, A>>,
+fn put_before<W: Target>(
+    writer: &mut TextWriter<Buffered<W>>,
     shown: IntervalsAs,
     seconds: u32,
-    summary: &Summary<A>,
+    summary: &Summary,
     outcome: &Outcome,
 ) -> Result<(), SinkFault> {
     if summary.is_over(seconds, over_at(outcome)) {
@@ -91,21 +90,21 @@ fn put_before<W: Target, A: Allocator>(
 }
 
 /// Takes what is written of the interval that is counted, or where none is above all of them, and passes it on.
-pub(crate) fn put_interval<W: Target, A: Allocator>(
-    writer: &mut TextWriter<Buffered<W, A>>,
+pub(crate) fn put_interval<W: Target>(
+    writer: &mut TextWriter<Buffered<W>>,
     shown: IntervalsAs,
     seconds: u32,
-    summary: &Summary<A>,
+    summary: &Summary,
 ) -> Result<(), SinkFault> {
     put_as(writer, shown, seconds, summary)?;
     writer.pass_on()
 }
 
-fn put_as<P: Pen, A: Allocator>(
+fn put_as<P: Pen>(
     writer: &mut TextWriter<P>,
     shown: IntervalsAs,
     seconds: u32,
-    summary: &Summary<A>,
+    summary: &Summary,
 ) -> Result<(), SinkFault> {
     match shown {
         IntervalsAs::Lines => summary.put_interval(writer, seconds),

@@ -1,6 +1,7 @@
 // Written by dist/erase from crates/cqlp_capture_exchanges/src/label.rt.
 //! The first bytes of a text, as many as a summary keeps of a name.
 
+use crate::kit_host::prelude::{KitVec};
 use crate::cqlp_note::{IoFault, Target};
 
 /// How many bytes there is room for.
@@ -40,7 +41,7 @@ impl Label {
     }
 
     /// Takes a byte, if there is room for it.
-    pub(crate) fn push(&mut self, byte: u8) {
+    pub(crate) fn kit_push(&mut self, byte: u8) {
         if self.len < ROOM {
             self.bytes[self.len] = byte;
             self.len += 1;

@@ -18,32 +18,31 @@ use crate::cqlp_capture_exchanges::utc::put_utc;
 use crate::cqlp_capture_summary::put_shown_text;
 use crate::cqlp_grammar::SinkFault;
 use crate::cqlp_note::{Header, Target};
-use crate::cqlp_observer::{Facts, Frame, Kept, Message, Opening, Paired};
+use crate::cqlp_observer::{Facts, SeenFrame, Kept, SeenMessage, Opening, Paired};
 use crate::cqlp_tcp_connections::Ends;
 use crate::cqlp_text::{Buffered, Pen, TextWriter, opcode_name};
-use crate::kit_std::alloc::Allocator;
 
 /// Takes the line of a report of this connection in this style, in a capture whose first packet came at this time, and passes it on.
-pub(crate) fn put_line<W: Target, A: Allocator, B: Allocator>(
-    writer: &mut TextWriter<Buffered<W, A>>,
-    known: &Known<B>,
+pub(crate) fn put_line<W: Target>(
+    writer: &mut TextWriter<Buffered<W>>,
+    known: &Known,
     style: LineStyle,
     first: Option<u64>,
     connection: &Connection,
-    report: &Report<B>,
+    report: &Report,
 ) -> Result<(), SinkFault> {
     put_report(writer, known, style, first, connection, report)?;
     writer.pass_on()
 }
 
 /// Takes the line of a report.
-fn put_report<P: Pen, A: Allocator>(
+fn put_report<P: Pen>(
     writer: &mut TextWriter<P>,
-    known: &Known<A>,
+    known: &Known,
     style: LineStyle,
     first: Option<u64>,
     connection: &Connection,
-    report: &Report<A>,
+    report: &Report,
 ) -> Result<(), SinkFault> {
     match report {
         Report::Messages { paired, end } => put_paired(
@@ -56,14 +55,14 @@ fn put_report<P: Pen, A: Allocator>(
 }
 
 /// Takes the line of messages, whose connection ended so where that is why they are reported.
-fn put_paired<P: Pen, A: Allocator>(
+fn put_paired<P: Pen>(
     writer: &mut TextWriter<P>,
-    known: &Known<A>,
+    known: &Known,
     style: LineStyle,
     first: Option<u64>,
     connection: &Connection,
     end: Option<ConnectionEnd>,
-    exchange: &Paired<Kept<A>>,
+    exchange: &Paired<Kept>,
 ) -> Result<(), SinkFault> {
     match exchange {
         Paired::Exchange { request, response } => {
@@ -77,14 +76,14 @@ fn put_paired<P: Pen, A: Allocator>(
     }
 }
 
-fn put_exchange<P: Pen, A: Allocator>(
+fn put_exchange<P: Pen>(
     writer: &mut TextWriter<P>,
-    known: &Known<A>,
+    known: &Known,
     style: LineStyle,
     first: Option<u64>,
     connection: &Connection,
-    request: &Message<Kept<A>>,
-    response: &Message<Kept<A>>,
+    request: &SeenMessage<Kept>,
+    response: &SeenMessage<Kept>,
 ) -> Result<(), SinkFault> {
     put_place(writer, style, first, connection, &request.frame)?;
     put_request(writer, known, style.values, request)?;
@@ -93,14 +92,14 @@ fn put_exchange<P: Pen, A: Allocator>(
     put_took(writer, &request.frame, &response.frame)
 }
 
-fn put_unanswered<P: Pen, A: Allocator>(
+fn put_unanswered<P: Pen>(
     writer: &mut TextWriter<P>,
-    known: &Known<A>,
+    known: &Known,
     style: LineStyle,
     first: Option<u64>,
     connection: &Connection,
     end: Option<ConnectionEnd>,
-    request: &Message<Kept<A>>,
+    request: &SeenMessage<Kept>,
 ) -> Result<(), SinkFault> {
     put_place(writer, style, first, connection, &request.frame)?;
     put_request(writer, known, style.values, request)?;
@@ -119,12 +118,12 @@ fn end_text(end: Option<ConnectionEnd>) -> &'static str {
     }
 }
 
-fn put_unasked<P: Pen, A: Allocator>(
+fn put_unasked<P: Pen>(
     writer: &mut TextWriter<P>,
     style: LineStyle,
     first: Option<u64>,
     connection: &Connection,
-    response: &Message<Kept<A>>,
+    response: &SeenMessage<Kept>,
 ) -> Result<(), SinkFault> {
     put_place(writer, style, first, connection, &response.frame)?;
     writer.put(b"nothing -> ")?;
@@ -132,12 +131,12 @@ fn put_unasked<P: Pen, A: Allocator>(
     writer.put(b"\n")
 }
 
-fn put_event<P: Pen, A: Allocator>(
+fn put_event<P: Pen>(
     writer: &mut TextWriter<P>,
     style: LineStyle,
     first: Option<u64>,
     connection: &Connection,
-    event: &Message<Kept<A>>,
+    event: &SeenMessage<Kept>,
 ) -> Result<(), SinkFault> {
     put_place(writer, style, first, connection, &event.frame)?;
     put_response(writer, event)?;
@@ -184,7 +183,7 @@ fn put_place<P: Pen>(
     style: LineStyle,
     first: Option<u64>,
     connection: &Connection,
-    frame: &Frame,
+    frame: &SeenFrame,
 ) -> Result<(), SinkFault> {
     put_begun(writer, style.is_utc, first, frame.begun)?;
     writer.put(b" ")?;
@@ -237,8 +236,8 @@ fn put_stream<P: Pen>(writer: &mut TextWriter<P>, header: &Header) -> Result<(),
 /// Takes how long a response took.
 fn put_took<P: Pen>(
     writer: &mut TextWriter<P>,
-    request: &Frame,
-    response: &Frame,
+    request: &SeenFrame,
+    response: &SeenFrame,
 ) -> Result<(), SinkFault> {
     let took = took(request, response);
     writer.put(b" ")?;
@@ -246,11 +245,11 @@ fn put_took<P: Pen>(
     writer.put(b" ms\n")
 }
 
-fn put_request<P: Pen, A: Allocator>(
+fn put_request<P: Pen>(
     writer: &mut TextWriter<P>,
-    known: &Known<A>,
+    known: &Known,
     shown: ValuesShown,
-    request: &Message<Kept<A>>,
+    request: &SeenMessage<Kept>,
 ) -> Result<(), SinkFault> {
     let front = request.kept.front();
     let count = statements_of(&request.frame.header, front);
@@ -266,9 +265,9 @@ fn put_request<P: Pen, A: Allocator>(
     put_frame(writer, &request.frame)
 }
 
-fn put_response<P: Pen, A: Allocator>(
+fn put_response<P: Pen>(
     writer: &mut TextWriter<P>,
-    response: &Message<Kept<A>>,
+    response: &SeenMessage<Kept>,
 ) -> Result<(), SinkFault> {
     let reply = reply_of(&response.frame.header, response.kept.front());
     let facts = response.kept.facts();
@@ -400,7 +399,7 @@ fn put_trace_id<P: Pen>(writer: &mut TextWriter<P>, id: [u8; 16]) -> Result<(), 
 }
 
 /// Takes how many bytes a frame has, and what is missing of it.
-fn put_frame<P: Pen>(writer: &mut TextWriter<P>, frame: &Frame) -> Result<(), SinkFault> {
+fn put_frame<P: Pen>(writer: &mut TextWriter<P>, frame: &SeenFrame) -> Result<(), SinkFault> {
     writer.put(b" ")?;
     writer.put_number(9 + frame.header.length as u64)?;
     writer.put_str(cut_mark(is_whole(frame.extent)))?;

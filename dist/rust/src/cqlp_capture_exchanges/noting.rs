@@ -21,17 +21,16 @@ use crate::cqlp_capture_exchanges::summary_by::{Attribute, SummaryBy};
 use crate::cqlp_capture_exchanges::table_name::table_name;
 use crate::cqlp_capture_summary::{Occurrence, Summary};
 use crate::cqlp_note::Opcode;
-use crate::cqlp_observer::{Kept, Message, Paired};
+use crate::cqlp_observer::{Kept, SeenMessage, Paired};
 use crate::cqlp_text::opcode_name;
-use crate::kit_std::alloc::Allocator;
 
 /// Counts what is reported, where a summary is the form.
-pub(crate) fn note<A: Allocator, B: Allocator>(
-    summary: &mut Summary<A>,
+pub(crate) fn note(
+    summary: &mut Summary,
     form: ExchangeForm,
-    known: &Known<B>,
+    known: &Known,
     connection: &Connection,
-    report: &Report<B>,
+    report: &Report,
 )
 {
     match form {
@@ -46,12 +45,12 @@ pub(crate) fn note<A: Allocator, B: Allocator>(
 }
 
 /// Counts a request with what came of it.
-fn note_report<A: Allocator, B: Allocator>(
-    summary: &mut Summary<A>,
+fn note_report(
+    summary: &mut Summary,
     by: SummaryBy,
-    known: &Known<B>,
+    known: &Known,
     connection: &Connection,
-    report: &Report<B>,
+    report: &Report,
 )
 {
     match report {
@@ -60,12 +59,12 @@ fn note_report<A: Allocator, B: Allocator>(
     }
 }
 
-fn note_paired<A: Allocator, B: Allocator>(
-    summary: &mut Summary<A>,
+fn note_paired(
+    summary: &mut Summary,
     by: SummaryBy,
-    known: &Known<B>,
+    known: &Known,
     connection: &Connection,
-    paired: &Paired<Kept<B>>,
+    paired: &Paired<Kept>,
 )
 {
     match paired {
@@ -81,9 +80,9 @@ fn note_paired<A: Allocator, B: Allocator>(
     }
 }
 
-pub(crate) fn answered_by<B: Allocator>(
-    request: &Message<Kept<B>>,
-    response: &Message<Kept<B>>,
+pub(crate) fn answered_by(
+    request: &SeenMessage<Kept>,
+    response: &SeenMessage<Kept>,
 ) -> Outcome {
     Outcome {
         is_answered: true,
@@ -96,7 +95,7 @@ pub(crate) fn answered_by<B: Allocator>(
     }
 }
 
-pub(crate) fn unanswered<B: Allocator>(request: &Message<Kept<B>>) -> Outcome {
+pub(crate) fn unanswered(request: &SeenMessage<Kept>) -> Outcome {
     Outcome {
         is_answered: false,
         reply: None,
@@ -109,12 +108,12 @@ pub(crate) fn unanswered<B: Allocator>(request: &Message<Kept<B>>) -> Outcome {
 }
 
 /// Counts a request on this connection by what is asked for.
-fn note_by<A: Allocator, B: Allocator>(
-    summary: &mut Summary<A>,
+fn note_by(
+    summary: &mut Summary,
     by: SummaryBy,
-    known: &Known<B>,
+    known: &Known,
     connection: &Connection,
-    request: &Message<Kept<B>>,
+    request: &SeenMessage<Kept>,
     outcome: &Outcome,
 )
 {
@@ -128,10 +127,10 @@ fn note_by<A: Allocator, B: Allocator>(
 }
 
 /// Counts a request under the table that its statement names, or under its opcode.
-fn note_table<A: Allocator, B: Allocator>(
-    summary: &mut Summary<A>,
-    known: &Known<B>,
-    request: &Message<Kept<B>>,
+fn note_table(
+    summary: &mut Summary,
+    known: &Known,
+    request: &SeenMessage<Kept>,
     outcome: &Outcome,
 )
 {
@@ -151,11 +150,11 @@ fn table_of(statement: Option<Statement<'_>>) -> Option<Label> {
 }
 
 /// Counts a request under an attribute of it.
-fn note_attribute<A: Allocator, B: Allocator>(
-    summary: &mut Summary<A>,
+fn note_attribute(
+    summary: &mut Summary,
     attribute: Attribute,
     connection: &Connection,
-    request: &Message<Kept<B>>,
+    request: &SeenMessage<Kept>,
     outcome: &Outcome,
 )
 {
@@ -171,11 +170,11 @@ fn note_attribute<A: Allocator, B: Allocator>(
 }
 
 /// Counts a request under its statement.
-fn note_request<A: Allocator, B: Allocator>(
-    summary: &mut Summary<A>,
+fn note_request(
+    summary: &mut Summary,
     naming: Naming,
-    known: &Known<B>,
-    request: &Message<Kept<B>>,
+    known: &Known,
+    request: &SeenMessage<Kept>,
     outcome: &Outcome,
 )
 {
@@ -190,12 +189,12 @@ fn note_request<A: Allocator, B: Allocator>(
 }
 
 /// Counts a request under the text of its statement, after a word where it is the first one of a BATCH.
-fn note_text<A: Allocator, B: Allocator>(
-    summary: &mut Summary<A>,
+fn note_text(
+    summary: &mut Summary,
     naming: Naming,
     text: &str,
     is_whole: bool,
-    request: &Message<Kept<B>>,
+    request: &SeenMessage<Kept>,
     outcome: &Outcome,
 )
 {
@@ -219,11 +218,11 @@ fn has_all(text: &str, is_whole: bool) -> bool {
 }
 
 /// Counts a request under its opcode and the id of its statement, whose text is not known.
-fn note_id<A: Allocator, B: Allocator>(
-    summary: &mut Summary<A>,
+fn note_id(
+    summary: &mut Summary,
     id: &[u8],
     is_whole: bool,
-    request: &Message<Kept<B>>,
+    request: &SeenMessage<Kept>,
     outcome: &Outcome,
 )
 {
@@ -239,10 +238,10 @@ fn note_id<A: Allocator, B: Allocator>(
 }
 
 /// Counts a request under its opcode, where its statement is not known.
-fn note_opcode<A: Allocator, B: Allocator>(
-    summary: &mut Summary<A>,
+fn note_opcode(
+    summary: &mut Summary,
     naming: Naming,
-    request: &Message<Kept<B>>,
+    request: &SeenMessage<Kept>,
     outcome: &Outcome,
 )
 {
@@ -251,8 +250,8 @@ fn note_opcode<A: Allocator, B: Allocator>(
 }
 
 /// Counts a request under a name.
-fn note_as<A: Allocator>(
-    summary: &mut Summary<A>,
+fn note_as(
+    summary: &mut Summary,
     naming: Naming,
     name: &[u8],
     is_whole_name: bool,

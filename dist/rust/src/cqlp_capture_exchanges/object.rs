@@ -17,32 +17,31 @@ use crate::cqlp_capture_exchanges::span::{Span, is_whole, time_between, took};
 use crate::cqlp_capture_exchanges::statement::{Statement, has, statement_of, statements_of};
 use crate::cqlp_grammar::SinkFault;
 use crate::cqlp_note::Target;
-use crate::cqlp_observer::{Facts, Frame, Kept, Message, Opening, Paired};
+use crate::cqlp_observer::{Facts, SeenFrame, Kept, SeenMessage, Opening, Paired};
 use crate::cqlp_text::{Buffered, Pen, TextWriter, opcode_name};
-use crate::kit_std::alloc::Allocator;
 
 /// Takes the object of a report of this connection, in a capture whose first packet came at this time, in a line of its own, and
 /// passes it on.
-pub(crate) fn put_json_line<W: Target, A: Allocator, B: Allocator>(
-    writer: &mut TextWriter<Buffered<W, A>>,
-    known: &Known<B>,
+pub(crate) fn put_json_line<W: Target>(
+    writer: &mut TextWriter<Buffered<W>>,
+    known: &Known,
     shown: ValuesShown,
     first: Option<u64>,
     connection: &Connection,
-    report: &Report<B>,
+    report: &Report,
 ) -> Result<(), SinkFault> {
     put_report(writer, known, shown, first, connection, report)?;
     writer.pass_on()
 }
 
 /// Takes the object of a report.
-fn put_report<P: Pen, A: Allocator>(
+fn put_report<P: Pen>(
     writer: &mut TextWriter<P>,
-    known: &Known<A>,
+    known: &Known,
     shown: ValuesShown,
     first: Option<u64>,
     connection: &Connection,
-    report: &Report<A>,
+    report: &Report,
 ) -> Result<(), SinkFault> {
     match report {
         Report::Messages { paired, end } => put_paired(
@@ -106,14 +105,14 @@ pub(crate) fn version_or_null(opening: Opening) -> Value<'static> {
 }
 
 /// Takes the object of messages, whose connection ended so where that is why they are reported.
-fn put_paired<P: Pen, A: Allocator>(
+fn put_paired<P: Pen>(
     writer: &mut TextWriter<P>,
-    known: &Known<A>,
+    known: &Known,
     shown: ValuesShown,
     first: Option<u64>,
     connection: &Connection,
     end: Option<ConnectionEnd>,
-    reported: &Paired<Kept<A>>,
+    reported: &Paired<Kept>,
 ) -> Result<(), SinkFault> {
     match reported {
         Paired::Exchange { request, response } => {
@@ -143,14 +142,14 @@ impl Last {
 }
 
 /// Takes the object of a request with its response.
-fn put_exchange<P: Pen, A: Allocator>(
+fn put_exchange<P: Pen>(
     writer: &mut TextWriter<P>,
-    known: &Known<A>,
+    known: &Known,
     shown: ValuesShown,
     first: Option<u64>,
     connection: &Connection,
-    request: &Message<Kept<A>>,
-    response: &Message<Kept<A>>,
+    request: &SeenMessage<Kept>,
+    response: &SeenMessage<Kept>,
 ) -> Result<(), SinkFault> {
     let last = Last {
         time: took(&request.frame, &response.frame),
@@ -164,14 +163,14 @@ fn put_exchange<P: Pen, A: Allocator>(
 }
 
 /// Takes the object of a request without a response, whose connection ended so where that is why.
-fn put_unanswered<P: Pen, A: Allocator>(
+fn put_unanswered<P: Pen>(
     writer: &mut TextWriter<P>,
-    known: &Known<A>,
+    known: &Known,
     shown: ValuesShown,
     first: Option<u64>,
     connection: &Connection,
     end: Option<ConnectionEnd>,
-    request: &Message<Kept<A>>,
+    request: &SeenMessage<Kept>,
 ) -> Result<(), SinkFault> {
     let last = Last { time: None, end };
     put_place(writer, "unanswered", first, connection, &request.frame)?;
@@ -181,12 +180,12 @@ fn put_unanswered<P: Pen, A: Allocator>(
 }
 
 /// Takes the object of a response without a request, or of an event.
-fn put_alone<P: Pen, A: Allocator>(
+fn put_alone<P: Pen>(
     writer: &mut TextWriter<P>,
     reported: &str,
     first: Option<u64>,
     connection: &Connection,
-    response: &Message<Kept<A>>,
+    response: &SeenMessage<Kept>,
 ) -> Result<(), SinkFault> {
     put_place(writer, reported, first, connection, &response.frame)?;
     put_response(writer, response)?;
@@ -200,7 +199,7 @@ fn put_place<P: Pen>(
     reported: &str,
     first: Option<u64>,
     connection: &Connection,
-    frame: &Frame,
+    frame: &SeenFrame,
 ) -> Result<(), SinkFault> {
     let since = time_between(first, frame.begun);
     put_members(
@@ -239,11 +238,11 @@ pub(crate) fn end_or_null(end: Option<ConnectionEnd>) -> Value<'static> {
     }
 }
 
-fn put_request<P: Pen, A: Allocator>(
+fn put_request<P: Pen>(
     writer: &mut TextWriter<P>,
-    known: &Known<A>,
+    known: &Known,
     shown: ValuesShown,
-    request: &Message<Kept<A>>,
+    request: &SeenMessage<Kept>,
 ) -> Result<(), SinkFault> {
     let front = request.kept.front();
     let count = statements_of(&request.frame.header, front);
@@ -275,7 +274,7 @@ fn put_query<P: Pen>(writer: &mut TextWriter<P>, facts: &Facts) -> Result<(), Si
     )
 }
 
-fn put_request_frame<P: Pen>(writer: &mut TextWriter<P>, frame: &Frame) -> Result<(), SinkFault> {
+fn put_request_frame<P: Pen>(writer: &mut TextWriter<P>, frame: &SeenFrame) -> Result<(), SinkFault> {
     put_members(
         writer,
         &[
@@ -346,9 +345,9 @@ fn put_statement_as<P: Pen>(
     )
 }
 
-fn put_response<P: Pen, A: Allocator>(
+fn put_response<P: Pen>(
     writer: &mut TextWriter<P>,
-    response: &Message<Kept<A>>,
+    response: &SeenMessage<Kept>,
 ) -> Result<(), SinkFault> {
     let reply = reply_of(&response.frame.header, response.kept.front());
     put_response_frame(writer, &response.frame)?;
@@ -420,7 +419,7 @@ fn put_result<P: Pen>(writer: &mut TextWriter<P>, facts: &Facts) -> Result<(), S
     )
 }
 
-fn put_response_frame<P: Pen>(writer: &mut TextWriter<P>, frame: &Frame) -> Result<(), SinkFault> {
+fn put_response_frame<P: Pen>(writer: &mut TextWriter<P>, frame: &SeenFrame) -> Result<(), SinkFault> {
     put_members(
         writer,
         &[

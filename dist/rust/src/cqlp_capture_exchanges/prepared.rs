@@ -1,24 +1,24 @@
 // Written by dist/erase from crates/cqlp_capture_exchanges/src/prepared.rt.
 //! Statements that were prepared: their texts by their ids.
 
-use crate::kit_host::prelude::{AllocGlobal, Vec};
+use crate::kit_host::prelude::{KitVec, Vec};
 use crate::cqlp_capture_exchanges::reply::{Reply, reply_of};
 use crate::cqlp_capture_exchanges::statement::{Statement, short_bytes, statement_of};
 use crate::cqlp_note::Opcode;
-use crate::cqlp_observer::{Kept, Message};
+use crate::cqlp_observer::{Kept, SeenMessage};
 use crate::cqlp_statement_file::StatementTexts;
-use crate::kit_std::alloc::{AllocError, Allocator, Global};
+use crate::kit_std::alloc::{AllocError};
 
 /// How many statements that were prepared are known at most.
 const MOST: usize = 256;
 
 /// A PREPARE, and the response that gives its statement an id.
-pub(crate) struct Preparation<A: Allocator = Global> {
-    pub(crate) request: Message<Kept<A>>,
-    pub(crate) response: Message<Kept<A>>,
+pub(crate) struct Preparation {
+    pub(crate) request: SeenMessage<Kept>,
+    pub(crate) response: SeenMessage<Kept>,
 }
 
-impl<A: Allocator> Preparation<A> {
+impl Preparation {
     /// Whether its statement has this id.
     fn is_of(&self, id: &[u8]) -> bool {
         match prepared_id(&self.response) {
@@ -33,7 +33,7 @@ pub(crate) fn same_bytes(a: &[u8], b: &[u8]) -> bool {
 }
 
 /// The id that a response gives to a statement, a RESULT of the kind Prepared. Section 4.2.5.4 of `native_protocol_v4.spec`.
-fn prepared_id<A: Allocator>(response: &Message<Kept<A>>) -> Option<&[u8]> {
+fn prepared_id(response: &SeenMessage<Kept>) -> Option<&[u8]> {
     let header = &response.frame.header;
     let front = response.kept.front();
     match reply_of(header, front) {
@@ -56,7 +56,7 @@ pub(crate) fn whole_id(bytes: &[u8]) -> Option<&[u8]> {
 }
 
 /// The text of the statement with this id, if it is known.
-fn text_for<'a, A: Allocator>(known: &'a [Preparation<A>], id: &[u8]) -> Option<Statement<'a>> {
+fn text_for<'a>(known: &'a [Preparation], id: &[u8]) -> Option<Statement<'a>> {
     for one in known {
         if one.is_of(id) {
             return statement_of(&one.request.frame.header, one.request.kept.front());
@@ -66,16 +66,16 @@ fn text_for<'a, A: Allocator>(known: &'a [Preparation<A>], id: &[u8]) -> Option<
 }
 
 /// Statements whose texts are known.
-pub(crate) struct Known<A: Allocator = Global> {
+pub(crate) struct Known {
     /// Those that were prepared, each by the first PREPARE whose response gave its id; of too many the one goes whose id came first.
-    prepared: Vec<Preparation<A>, A>,
+    prepared: Vec<Preparation>,
     given: StatementTexts,
 }
 
-impl<A: Allocator> Known<A> {
+impl Known {
     /// Those that were given, with room for those that are prepared.
-    pub(crate) fn new(alloc: A, given: StatementTexts) -> Result<Self, AllocError> {
-        let prepared = Vec::with_capacity(alloc, MOST)?;
+    pub(crate) fn new(given: StatementTexts) -> Result<Self, AllocError> {
+        let prepared = Vec::kit_with_capacity(MOST)?;
         Ok(Known { prepared, given })
     }
 
@@ -88,12 +88,12 @@ impl<A: Allocator> Known<A> {
     }
 
     /// Whether a request is a PREPARE and its response gives its statement an id that no other PREPARE has.
-    pub(crate) fn is_news(&self, request: &Message<Kept<A>>, response: &Message<Kept<A>>) -> bool {
+    pub(crate) fn is_news(&self, request: &SeenMessage<Kept>, response: &SeenMessage<Kept>) -> bool {
         is_news(&self.prepared, request, response)
     }
 
     /// Puts a statement behind the others that were prepared; where there are too many, the first one goes.
-    pub(crate) fn add(&mut self, one: Preparation<A>) {
+    pub(crate) fn add(&mut self, one: Preparation) {
         add_known(&mut self.prepared, one);
     }
 
@@ -118,8 +118,8 @@ fn text_given<'a>(given: &'a StatementTexts, id: &[u8]) -> Option<Statement<'a>>
 }
 
 /// What a request asks to be done, with the text of a statement that is known in place of its id.
-pub(crate) fn named<'a, A: Allocator>(
-    known: &'a Known<A>,
+pub(crate) fn named<'a>(
+    known: &'a Known,
     said: Option<Statement<'a>>,
 ) -> Option<Statement<'a>> {
     match said {
@@ -128,7 +128,7 @@ pub(crate) fn named<'a, A: Allocator>(
     }
 }
 
-fn text_or_id<'a, A: Allocator>(known: &'a Known<A>, id: &'a [u8]) -> Option<Statement<'a>> {
+fn text_or_id<'a>(known: &'a Known, id: &'a [u8]) -> Option<Statement<'a>> {
     match known.text(id) {
         Some(text) => Some(text),
         None => Some(Statement::Id { id, is_whole: true }),
@@ -136,7 +136,7 @@ fn text_or_id<'a, A: Allocator>(known: &'a Known<A>, id: &'a [u8]) -> Option<Sta
 }
 
 /// The first bytes of the response that gave the statement with this id, if it is known.
-fn response_for<'a, A: Allocator>(known: &'a [Preparation<A>], id: &[u8]) -> &'a [u8] {
+fn response_for<'a>(known: &'a [Preparation], id: &[u8]) -> &'a [u8] {
     for one in known {
         if one.is_of(id) {
             return one.response.kept.front();
@@ -146,28 +146,28 @@ fn response_for<'a, A: Allocator>(known: &'a [Preparation<A>], id: &[u8]) -> &'a
 }
 
 /// Whether a request is a PREPARE and its response gives its statement an id that is not known.
-fn is_news<A: Allocator>(
-    known: &[Preparation<A>],
-    request: &Message<Kept<A>>,
-    response: &Message<Kept<A>>,
+fn is_news(
+    known: &[Preparation],
+    request: &SeenMessage<Kept>,
+    response: &SeenMessage<Kept>,
 ) -> bool {
     request.frame.header.opcode == Opcode::Prepare && !is_known(known, prepared_id(response))
 }
 
 /// Whether a statement has this id, or there is none.
-fn is_known<A: Allocator>(known: &[Preparation<A>], id: Option<&[u8]>) -> bool {
+fn is_known(known: &[Preparation], id: Option<&[u8]>) -> bool {
     match id {
         Some(id) => has_id(known, id),
         None => true,
     }
 }
 
-fn has_id<A: Allocator>(known: &[Preparation<A>], id: &[u8]) -> bool {
+fn has_id(known: &[Preparation], id: &[u8]) -> bool {
     known.iter().any(|one| one.is_of(id))
 }
 
 /// Puts a statement behind the others; where there are too many, the first one goes.
-fn add_known<A: Allocator>(known: &mut Vec<Preparation<A>, A>, one: Preparation<A>) {
+fn add_known(known: &mut Vec<Preparation>, one: Preparation) {
     if known.len() >= MOST {
         let _ = known.remove(0);
     }

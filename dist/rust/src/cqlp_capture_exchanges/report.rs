@@ -3,7 +3,6 @@
 
 use crate::cqlp_observer::{Kept, Opening, Paired};
 use crate::cqlp_tcp_connections::{ConnectionTotals, End};
-use crate::kit_std::alloc::{Allocator, Global};
 
 /// How the connection of a request without a response ended.
 #[derive(Clone, Copy)]
@@ -17,10 +16,10 @@ pub enum ConnectionEnd {
 }
 
 /// What is reported of a connection.
-pub enum Report<A: Allocator = Global> {
+pub enum Report {
     /// A request, a response, or both; of those that wait when their connection is finished also how that ended.
     Messages {
-        paired: Paired<Kept<A>>,
+        paired: Paired<Kept>,
         end: Option<ConnectionEnd>,
     },
     /// The first bytes of a direction, captured at this time, are no frame of version 4.

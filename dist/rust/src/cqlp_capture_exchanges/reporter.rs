@@ -19,31 +19,30 @@ use crate::cqlp_capture_streams::StreamsFault;
 use crate::cqlp_capture_summary::Summary;
 use crate::cqlp_grammar::SinkFault;
 use crate::cqlp_note::Target;
-use crate::cqlp_observer::{Kept, Message, Opening, Paired};
+use crate::cqlp_observer::{Kept, SeenMessage, Opening, Paired};
 use crate::cqlp_text::{Buffered, TextWriter};
-use crate::kit_std::alloc::{Allocator, Global};
 
 /// Counts what is reported of connections, and writes what is shown. Takes no memory.
-pub(crate) struct Reporter<O: Target, A: Allocator = Global> {
+pub(crate) struct Reporter<O: Target> {
     filter: ExchangeFilter,
     form: ExchangeForm,
     /// When the first packet with a segment was captured of which that is known.
     first: Option<u64>,
-    known: Known<A>,
-    summary: Summary<A>,
+    known: Known,
+    summary: Summary,
     sums: ExchangeSums,
-    writer: TextWriter<Buffered<O, A>>,
+    writer: TextWriter<Buffered<O>>,
 }
 
-impl<O: Target, A: Allocator> Reporter<O, A> {
+impl<O: Target> Reporter<O> {
     /// Of an output, with nothing reported. A line waits in the buffer until it is whole, as far as there is room for it.
     pub(crate) fn new(
         filter: ExchangeFilter,
         form: ExchangeForm,
         out: O,
-        buffer: Vec<u8, A>,
-        known: Known<A>,
-        summary: Summary<A>,
+        buffer: Vec<u8>,
+        known: Known,
+        summary: Summary,
     ) -> Self {
         Reporter {
             filter,
@@ -76,7 +75,7 @@ impl<O: Target, A: Allocator> Reporter<O, A> {
     }
 
     /// Takes a report of this connection.
-    fn take_report(&mut self, connection: &Connection, report: &Report<A>) -> Result<(), SinkFault> {
+    fn take_report(&mut self, connection: &Connection, report: &Report) -> Result<(), SinkFault> {
         self.sums.count(report);
         if self
             .filter
@@ -110,7 +109,7 @@ impl<O: Target, A: Allocator> Reporter<O, A> {
     }
 
     /// Takes a report of this connection, and learns from it.
-    fn report(&mut self, connection: &Connection, report: Report<A>) -> Result<(), StreamsFault> {
+    fn report(&mut self, connection: &Connection, report: Report) -> Result<(), StreamsFault> {
         match self.take_report(connection, &report) {
             Ok(()) => {
                 self.learn(report);
@@ -125,7 +124,7 @@ impl<O: Target, A: Allocator> Reporter<O, A> {
         &mut self,
         connection: &Connection,
         end: Option<ConnectionEnd>,
-        exchange: Option<Paired<Kept<A>>>,
+        exchange: Option<Paired<Kept>>,
     ) -> Result<(), StreamsFault> {
         match exchange {
             Some(paired) => self.report(connection, Report::Messages { paired, end }),
@@ -151,14 +150,14 @@ impl<O: Target, A: Allocator> Reporter<O, A> {
     }
 
     /// Keeps a statement that was prepared, with its id.
-    fn learn(&mut self, report: Report<A>) {
+    fn learn(&mut self, report: Report) {
         match report {
             Report::Messages { paired, end } => self.learn_paired(paired, end),
             Report::Unread { .. } => {}
         }
     }
 
-    fn learn_paired(&mut self, exchange: Paired<Kept<A>>, end: Option<ConnectionEnd>) {
+    fn learn_paired(&mut self, exchange: Paired<Kept>, end: Option<ConnectionEnd>) {
         match exchange {
             Paired::Exchange { request, response } => self.learn_exchange(request, response, end),
             Paired::Unanswered { .. } | Paired::Unasked { .. } | Paired::Event { .. } => {}
@@ -167,8 +166,8 @@ impl<O: Target, A: Allocator> Reporter<O, A> {
 
     fn learn_exchange(
         &mut self,
-        request: Message<Kept<A>>,
-        response: Message<Kept<A>>,
+        request: SeenMessage<Kept>,
+        response: SeenMessage<Kept>,
         end: Option<ConnectionEnd>,
     )
     {
@@ -179,14 +178,14 @@ impl<O: Target, A: Allocator> Reporter<O, A> {
 }
 
 /// Takes what is written of a report of this connection, after what is in the summary so far, and passes it on.
-fn put_report<W: Target, A: Allocator, B: Allocator>(
-    writer: &mut TextWriter<Buffered<W, A>>,
+fn put_report<W: Target>(
+    writer: &mut TextWriter<Buffered<W>>,
     form: ExchangeForm,
-    known: &Known<B>,
+    known: &Known,
     first: Option<u64>,
-    summary: &Summary<A>,
+    summary: &Summary,
     connection: &Connection,
-    report: &Report<B>,
+    report: &Report,
 ) -> Result<(), SinkFault> {
     match form {
         ExchangeForm::Lines(style) => put_line(writer, known, style, first, connection, report),
@@ -204,10 +203,10 @@ fn put_report<W: Target, A: Allocator, B: Allocator>(
 }
 
 /// Takes what is written at the end, and passes it on.
-fn put_ending<W: Target, A: Allocator>(
-    writer: &mut TextWriter<Buffered<W, A>>,
+fn put_ending<W: Target>(
+    writer: &mut TextWriter<Buffered<W>>,
     form: ExchangeForm,
-    summary: &Summary<A>,
+    summary: &Summary,
 ) -> Result<(), SinkFault> {
     match form {
         ExchangeForm::Lines(_) => Ok(()),
@@ -221,20 +220,20 @@ fn put_ending<W: Target, A: Allocator>(
 }
 
 /// Takes the lines of a summary, with this heading above the names, and passes them on.
-fn put_summary<W: Target, A: Allocator>(
-    writer: &mut TextWriter<Buffered<W, A>>,
+fn put_summary<W: Target>(
+    writer: &mut TextWriter<Buffered<W>>,
     heading: &str,
-    summary: &Summary<A>,
+    summary: &Summary,
 ) -> Result<(), SinkFault> {
     summary.put(writer, heading)?;
     writer.pass_on()
 }
 
 /// Takes the objects of a summary of these names, and passes them on.
-fn put_objects<W: Target, A: Allocator>(
-    writer: &mut TextWriter<Buffered<W, A>>,
+fn put_objects<W: Target>(
+    writer: &mut TextWriter<Buffered<W>>,
     by: &str,
-    summary: &Summary<A>,
+    summary: &Summary,
 ) -> Result<(), SinkFault> {
     put_summary_objects(writer, by, summary)?;
     writer.pass_on()

@@ -1,7 +1,7 @@
 // Written by dist/erase from crates/cqlp_capture_exchanges/src/slot.rt.
 //! One connection that is watched.
 
-use crate::kit_host::prelude::{AllocGlobal, Box, Clone, ToCopy};
+use crate::kit_host::prelude::{Box, KitBox};
 use crate::cqlp_capture_exchanges::connection::Connection;
 use crate::cqlp_capture_exchanges::report::{ConnectionEnd, is_unread};
 use crate::cqlp_capture_exchanges::reporter::Reporter;
@@ -10,20 +10,20 @@ use crate::cqlp_note::Target;
 use crate::cqlp_observer::{Kept, Missed, Opening, Paired, Unread, Watch, WatchRoom, WatchStep};
 use crate::cqlp_tcp_connections::{Delivery, Way};
 use crate::cqlp_tcp_reassembly::StreamStep;
-use crate::kit_std::alloc::{AllocError, Allocator, Global};
+use crate::kit_std::alloc::{AllocError};
 
 /// What is watched of a connection.
-pub(crate) struct Slot<A: Allocator = Global> {
-    watch: Box<Watch<A>, A>,
+pub(crate) struct Slot {
+    watch: Box<Watch>,
     /// Whether it was reported that the connection is not read.
     is_reported: bool,
 }
 
-impl<A: Allocator + Clone> Slot<A> {
+impl Slot {
     /// Nothing was seen of the connection.
-    pub(crate) fn new(alloc: A) -> Result<Self, AllocError> {
-        let watch = Watch::new(alloc.to_copy()?)?;
-        match Box::new(alloc, watch) {
+    pub(crate) fn new() -> Result<Self, AllocError> {
+        let watch = Watch::new()?;
+        match Box::kit_new(watch) {
             Ok(watch) => Ok(Slot {
                 watch,
                 is_reported: false,
@@ -52,7 +52,7 @@ impl<A: Allocator + Clone> Slot<A> {
         delivered: &Delivery,
         room: WatchRoom,
         bytes: &[u8],
-        reporter: &mut Reporter<O, A>,
+        reporter: &mut Reporter<O>,
     ) -> Result<(), StreamsFault> {
         hear_delivery(
             &mut self.watch,
@@ -70,7 +70,7 @@ impl<A: Allocator + Clone> Slot<A> {
         &mut self,
         connection: &Connection,
         room: WatchRoom,
-        reporter: &mut Reporter<O, A>,
+        reporter: &mut Reporter<O>,
     ) -> Result<(), StreamsFault> {
         end_watch(&mut self.watch, connection, room, reporter)
     }
@@ -80,21 +80,21 @@ impl<A: Allocator + Clone> Slot<A> {
         &mut self,
         connection: &Connection,
         end: ConnectionEnd,
-        reporter: &mut Reporter<O, A>,
+        reporter: &mut Reporter<O>,
     ) -> Result<(), StreamsFault> {
         let_go(&mut self.watch, connection, end, reporter)
     }
 }
 
 /// Takes what the streams of a connection deliver while the present packet came at this time, with its bytes.
-fn hear_delivery<O: Target, A: Allocator + Clone>(
-    watch: &mut Watch<A>,
+fn hear_delivery<O: Target>(
+    watch: &mut Watch,
     is_reported: &mut bool,
     present: Option<u64>,
     delivered: &Delivery,
     room: WatchRoom,
     bytes: &[u8],
-    reporter: &mut Reporter<O, A>,
+    reporter: &mut Reporter<O>,
 ) -> Result<(), StreamsFault> {
     let responses = is_responses(delivered.way);
     let connection = &Connection {
@@ -152,13 +152,13 @@ struct Piece<'a> {
 }
 
 /// Takes bytes of one direction.
-fn hear_bytes<O: Target, A: Allocator + Clone>(
-    watch: &mut Watch<A>,
+fn hear_bytes<O: Target>(
+    watch: &mut Watch,
     is_reported: &mut bool,
     connection: &Connection,
     piece: Piece<'_>,
     room: WatchRoom,
-    reporter: &mut Reporter<O, A>,
+    reporter: &mut Reporter<O>,
 ) -> Result<(), StreamsFault> {
     let Piece {
         responses,
@@ -188,13 +188,13 @@ fn hear_bytes<O: Target, A: Allocator + Clone>(
 }
 
 /// Reports what a step of bytes holds that were captured at this time.
-fn report_step<O: Target, A: Allocator>(
-    reporter: &mut Reporter<O, A>,
+fn report_step<O: Target>(
+    reporter: &mut Reporter<O>,
     connection: &Connection,
     time: Option<u64>,
     was_reported: bool,
     opening: Opening,
-    exchange: Option<Paired<Kept<A>>>,
+    exchange: Option<Paired<Kept>>,
 ) -> Result<(), StreamsFault> {
     match reporter.report_opening(connection, time, was_reported, opening) {
         Ok(()) => reporter.report_messages(connection, None, exchange),
@@ -208,14 +208,14 @@ fn is_reported_after(was_reported: bool, opening: Opening) -> bool {
 }
 
 /// So many bytes of a direction are missing, which passed at this time, where that is known.
-fn hear_gap<O: Target, A: Allocator + Clone>(
-    watch: &mut Watch<A>,
+fn hear_gap<O: Target>(
+    watch: &mut Watch,
     connection: &Connection,
     responses: bool,
     length: u64,
     time: Option<u64>,
     room: WatchRoom,
-    reporter: &mut Reporter<O, A>,
+    reporter: &mut Reporter<O>,
 ) -> Result<(), StreamsFault> {
     match watch.gap(responses, length, time, room) {
         Ok(exchange) => reporter.report_messages(connection, None, exchange),
@@ -224,11 +224,11 @@ fn hear_gap<O: Target, A: Allocator + Clone>(
 }
 
 /// No more bytes of either direction come.
-fn end_watch<O: Target, A: Allocator + Clone>(
-    watch: &mut Watch<A>,
+fn end_watch<O: Target>(
+    watch: &mut Watch,
     connection: &Connection,
     room: WatchRoom,
-    reporter: &mut Reporter<O, A>,
+    reporter: &mut Reporter<O>,
 ) -> Result<(), StreamsFault> {
     match end_direction(watch, connection, false, room, reporter) {
         Ok(()) => end_direction(watch, connection, true, room, reporter),
@@ -237,12 +237,12 @@ fn end_watch<O: Target, A: Allocator + Clone>(
 }
 
 /// No more bytes of a direction come.
-fn end_direction<O: Target, A: Allocator + Clone>(
-    watch: &mut Watch<A>,
+fn end_direction<O: Target>(
+    watch: &mut Watch,
     connection: &Connection,
     responses: bool,
     room: WatchRoom,
-    reporter: &mut Reporter<O, A>,
+    reporter: &mut Reporter<O>,
 ) -> Result<(), StreamsFault> {
     match watch.end(responses, room) {
         Ok(exchange) => reporter.report_messages(connection, None, exchange),
@@ -251,11 +251,11 @@ fn end_direction<O: Target, A: Allocator + Clone>(
 }
 
 /// Reports the messages that wait, of a connection that ended so.
-fn let_go<O: Target, A: Allocator + Clone>(
-    watch: &mut Watch<A>,
+fn let_go<O: Target>(
+    watch: &mut Watch,
     connection: &Connection,
     end: ConnectionEnd,
-    reporter: &mut Reporter<O, A>,
+    reporter: &mut Reporter<O>,
 ) -> Result<(), StreamsFault> {
     while let Some(exchange) = watch.finish() {
         reporter.report_messages(connection, Some(end), Some(exchange))?;

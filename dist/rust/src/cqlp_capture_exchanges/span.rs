@@ -2,7 +2,7 @@
 //! Times that lie apart.
 
 use crate::cqlp_grammar::SinkFault;
-use crate::cqlp_observer::{Extent, Frame};
+use crate::cqlp_observer::{Extent, SeenFrame};
 use crate::cqlp_text::{Pen, TextWriter};
 
 /// How far a time lies behind another one, or before it.
@@ -63,7 +63,7 @@ pub(crate) fn is_short(extent: Extent) -> bool {
 }
 
 /// How long a response took: from the request's first byte to its own last one, if that came.
-pub(crate) fn took(request: &Frame, response: &Frame) -> Option<Span> {
+pub(crate) fn took(request: &SeenFrame, response: &SeenFrame) -> Option<Span> {
     if is_short(response.extent) {
         None
     } else {

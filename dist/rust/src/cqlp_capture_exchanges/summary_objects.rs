@@ -6,22 +6,21 @@ use crate::cqlp_capture_exchanges::span::Span;
 use crate::cqlp_capture_summary::{Figures, Summary, Times, greatest_in};
 use crate::cqlp_grammar::SinkFault;
 use crate::cqlp_text::{Pen, TextWriter};
-use crate::kit_std::alloc::Allocator;
 
 /// Writes an object for each name that is distinguished, in the order of the table, and one for all others if there are any. `by` is what they are names of.
-pub fn put_summary_objects<P: Pen, A: Allocator>(
+pub fn put_summary_objects<P: Pen>(
     writer: &mut TextWriter<P>,
     by: &str,
-    summary: &Summary<A>,
+    summary: &Summary,
 ) -> Result<(), SinkFault> {
     put_known(writer, by, summary)?;
     put_others(writer, by, summary)
 }
 
-fn put_known<P: Pen, A: Allocator>(
+fn put_known<P: Pen>(
     writer: &mut TextWriter<P>,
     by: &str,
-    summary: &Summary<A>,
+    summary: &Summary,
 ) -> Result<(), SinkFault> {
     for place in 0..summary.len() {
         put_at(writer, by, summary, place)?;
@@ -30,10 +29,10 @@ fn put_known<P: Pen, A: Allocator>(
 }
 
 /// Writes the object of the name at a place.
-fn put_at<P: Pen, A: Allocator>(
+fn put_at<P: Pen>(
     writer: &mut TextWriter<P>,
     by: &str,
-    summary: &Summary<A>,
+    summary: &Summary,
     place: usize,
 ) -> Result<(), SinkFault> {
     let Some(row) = summary.row(place) else {
@@ -50,10 +49,10 @@ fn put_at<P: Pen, A: Allocator>(
     )
 }
 
-fn put_others<P: Pen, A: Allocator>(
+fn put_others<P: Pen>(
     writer: &mut TextWriter<P>,
     by: &str,
-    summary: &Summary<A>,
+    summary: &Summary,
 ) -> Result<(), SinkFault> {
     let figures = summary.others();
     if figures.count == 0 {

@@ -3,8 +3,7 @@
 
 use crate::cqlp_capture_exchanges::report::Report;
 use crate::cqlp_capture_exchanges::span::is_whole;
-use crate::cqlp_observer::{Kept, Message, Paired};
-use crate::kit_std::alloc::Allocator;
+use crate::cqlp_observer::{Kept, SeenMessage, Paired};
 
 /// What was reported of requests and responses, whether it was shown or not. A number stays at 2^64 - 1 once it is there.
 #[derive(Clone, Copy)]
@@ -33,14 +32,14 @@ impl ExchangeSums {
     }
 
     /// Counts what is reported.
-    pub(crate) fn count<A: Allocator>(&mut self, report: &Report<A>) {
+    pub(crate) fn count(&mut self, report: &Report) {
         match report {
             Report::Messages { paired, .. } => self.count_paired(paired),
             Report::Unread { .. } => {}
         }
     }
 
-    fn count_paired<A: Allocator>(&mut self, exchange: &Paired<Kept<A>>) {
+    fn count_paired(&mut self, exchange: &Paired<Kept>) {
         match exchange {
             Paired::Exchange { request, response } => {
                 self.exchanges = self.exchanges.saturating_add(1);
@@ -63,7 +62,7 @@ impl ExchangeSums {
     }
 
     /// Counts a message if it is not whole.
-    fn count_message<A: Allocator>(&mut self, message: &Message<Kept<A>>) {
+    fn count_message(&mut self, message: &SeenMessage<Kept>) {
         if !is_whole(message.frame.extent) {
             self.cut = self.cut.saturating_add(1);
         }

@@ -1,7 +1,6 @@
 // Written by dist/erase from crates/cqlp_capture_exchanges/src/table.rt.
 //! The connections that are watched.
 
-use crate::kit_host::prelude::{AllocGlobal, Clone, ToCopy};
 use crate::cqlp_capture_exchanges::connection::Connection;
 use crate::cqlp_capture_exchanges::pool::{ExchangeLimits, Pool};
 use crate::cqlp_capture_exchanges::report::end_of;
@@ -11,25 +10,23 @@ use crate::cqlp_capture_streams::StreamsFault;
 use crate::cqlp_note::Target;
 use crate::cqlp_observer::{Missed, WatchRoom};
 use crate::cqlp_tcp_connections::{ConnectionTotals, Delivery, Ends};
-use crate::kit_std::alloc::{AllocError, Allocator, Global};
+use crate::kit_std::alloc::{AllocError};
 use crate::kit_std::collections::BTreeMap;
 
 /// The connections that are watched, by their numbers. Memory is taken for each as it begins, and given back as it leaves.
-pub(crate) struct Table<A: Allocator = Global> {
-    alloc: A,
-    slots: BTreeMap<u64, Slot<A>, A>,
+pub(crate) struct Table {
+    slots: BTreeMap<u64, Slot>,
     /// How much of them waits.
     pool: Pool,
     /// What was missed of those that have left.
     missed: Missed,
 }
 
-impl<A: Allocator + Clone> Table<A> {
+impl Table {
     /// No connections.
-    pub(crate) fn new(alloc: A, limits: ExchangeLimits) -> Result<Self, AllocError> {
-        let slots = BTreeMap::new(alloc.to_copy()?);
+    pub(crate) fn new(limits: ExchangeLimits) -> Result<Self, AllocError> {
+        let slots = BTreeMap::new();
         Ok(Table {
-            alloc,
             slots,
             pool: Pool::new(limits),
             missed: Missed::NONE,
@@ -43,7 +40,7 @@ impl<A: Allocator + Clone> Table<A> {
 
     /// The connection with this number begins. Where memory is refused, nothing changes.
     pub(crate) fn begin(&mut self, number: u64) -> Result<(), AllocError> {
-        let slot = Slot::new(self.alloc.to_copy()?)?;
+        let slot = Slot::new()?;
         match self.slots.insert(number, slot) {
             Ok(_) => Ok(()),
             Err(_) => Err(AllocError),
@@ -56,7 +53,7 @@ impl<A: Allocator + Clone> Table<A> {
         present: Option<u64>,
         delivered: &Delivery,
         bytes: &[u8],
-        reporter: &mut Reporter<O, A>,
+        reporter: &mut Reporter<O>,
     ) -> Result<(), StreamsFault> {
         match self.slots.get_mut(&delivered.number) {
             Some(slot) => hear_in(slot, &mut self.pool, present, delivered, bytes, reporter),
@@ -68,7 +65,7 @@ impl<A: Allocator + Clone> Table<A> {
     pub(crate) fn leave<O: Target>(
         &mut self,
         totals: &ConnectionTotals,
-        reporter: &mut Reporter<O, A>,
+        reporter: &mut Reporter<O>,
     ) -> Result<(), StreamsFault> {
         match self.slots.remove(&totals.number) {
             Some(slot) => let_leave(slot, &mut self.pool, &mut self.missed, totals, reporter),
@@ -78,13 +75,13 @@ impl<A: Allocator + Clone> Table<A> {
 }
 
 /// Takes what the streams of this connection deliver.
-fn hear_in<O: Target, A: Allocator + Clone>(
-    slot: &mut Slot<A>,
+fn hear_in<O: Target>(
+    slot: &mut Slot,
     pool: &mut Pool,
     present: Option<u64>,
     delivered: &Delivery,
     bytes: &[u8],
-    reporter: &mut Reporter<O, A>,
+    reporter: &mut Reporter<O>,
 ) -> Result<(), StreamsFault> {
     let old = slot.held();
     let room = pool.room_for(old);
@@ -94,12 +91,12 @@ fn hear_in<O: Target, A: Allocator + Clone>(
 }
 
 /// This connection leaves.
-fn let_leave<O: Target, A: Allocator + Clone>(
-    mut slot: Slot<A>,
+fn let_leave<O: Target>(
+    mut slot: Slot,
     pool: &mut Pool,
     missed: &mut Missed,
     totals: &ConnectionTotals,
-    reporter: &mut Reporter<O, A>,
+    reporter: &mut Reporter<O>,
 ) -> Result<(), StreamsFault> {
     let old = slot.held();
     let room = pool.room_for(old);

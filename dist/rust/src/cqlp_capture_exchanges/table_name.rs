@@ -1,6 +1,7 @@
 // Written by dist/erase from crates/cqlp_capture_exchanges/src/table_name.rt.
 //! The table that a statement names.
 
+use crate::kit_host::prelude::{KitVec};
 use crate::cqlp_capture_exchanges::label::Label;
 use crate::cqlp_capture_exchanges::prepared::same_bytes;
 use crate::cqlp_capture_summary::Fingerprint;
@@ -144,7 +145,7 @@ impl Search {
 
     fn take(&mut self, piece: Piece, byte: u8) {
         self.piece = piece;
-        self.name.push(byte);
+        self.name.kit_push(byte);
     }
 
     fn end(&mut self) {

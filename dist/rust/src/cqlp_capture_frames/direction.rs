@@ -1,7 +1,7 @@
 // Written by dist/erase from crates/cqlp_capture_frames/src/direction.rt.
 //! One direction of a connection.
 
-use crate::kit_host::prelude::{AllocGlobal, Box, Clone, ToCopy};
+use crate::kit_host::prelude::{Box, KitBox};
 use crate::cqlp_capture_frames::drain::behind;
 use crate::cqlp_capture_frames::reader::FrameReader;
 use crate::cqlp_capture_frames::transcript::Transcript;
@@ -10,26 +10,24 @@ use crate::cqlp_observer::{Heads, Heard, HeardStep, Unread};
 use crate::cqlp_tcp_reassembly::StreamStep;
 use crate::cqlp_text::{Pen, TextWriter};
 use crate::cqlp_type::TypeTable;
-use crate::kit_std::alloc::{AllocError, Allocator, Global};
+use crate::kit_std::alloc::{AllocError};
 
 /// One direction of a connection: where its frames begin and end, and the decoder of the frame of which bytes are read. A frame is read as a
 /// stream of its own, so that a refusal, a gap or a compressed frame does not end the reading. It has memory while a frame is read, for its
 /// decoder.
-pub struct Direction<A: Allocator = Global> {
-    alloc: A,
+pub struct Direction {
     limits: Limits,
     responses: bool,
     heads: Heads,
     /// The decoder of the present frame; where there is none, its bytes are passed over.
-    reader: Option<Box<FrameReader<A>, A>>,
+    reader: Option<Box<FrameReader>>,
 }
 
-impl<A: Allocator> Direction<A> {
+impl Direction {
     /// A direction of which nothing came, that of the responses or that of the requests, whose frames are read within these limits. Takes no
     /// memory.
-    pub fn new(alloc: A, limits: Limits, responses: bool) -> Self {
+    pub fn new(limits: Limits, responses: bool) -> Self {
         Direction {
-            alloc,
             limits,
             responses,
             heads: Heads::new(responses, false),
@@ -38,7 +36,7 @@ impl<A: Allocator> Direction<A> {
     }
 }
 
-impl<A: Allocator + Clone> Direction<A> {
+impl Direction {
     /// Nothing came. Its first byte begins a frame, where `from_start`; else the first header that a segment begins with does.
     pub fn restart(&mut self, from_start: bool) {
         self.heads = Heads::new(self.responses, from_start);
@@ -55,7 +53,7 @@ impl<A: Allocator + Clone> Direction<A> {
 
     /// Takes what it delivers at an offset, with its bytes, and reports to the transcript what happens. Where there is no room for the memory of a
     /// frame, those that begin are passed over.
-    pub fn hear<T: Transcript<A>, P: Pen>(
+    pub fn hear<T: Transcript, P: Pen>(
         &mut self,
         has_room: bool,
         step: StreamStep,
@@ -90,7 +88,7 @@ impl<A: Allocator + Clone> Direction<A> {
     }
 
     /// No more comes of the frame that is read, if one is.
-    pub fn close<T: Transcript<A>, P: Pen>(
+    pub fn close<T: Transcript, P: Pen>(
         &mut self,
         transcript: &mut T,
         writer: &mut TextWriter<P>,
@@ -102,7 +100,7 @@ impl<A: Allocator + Clone> Direction<A> {
     }
 
     /// The frame that is read came whole, if one is.
-    fn end<T: Transcript<A>, P: Pen>(
+    fn end<T: Transcript, P: Pen>(
         &mut self,
         transcript: &mut T,
         writer: &mut TextWriter<P>,
@@ -114,7 +112,7 @@ impl<A: Allocator + Clone> Direction<A> {
     }
 
     /// Takes bytes from an offset on, the first of which begins a segment or not.
-    fn hear_bytes<T: Transcript<A>, P: Pen>(
+    fn hear_bytes<T: Transcript, P: Pen>(
         &mut self,
         has_room: bool,
         at: u64,
@@ -145,7 +143,7 @@ impl<A: Allocator + Clone> Direction<A> {
     }
 
     /// Takes bytes that end at an offset, and what they are.
-    fn report<T: Transcript<A>, P: Pen>(
+    fn report<T: Transcript, P: Pen>(
         &mut self,
         has_room: bool,
         end: u64,
@@ -167,7 +165,7 @@ impl<A: Allocator + Clone> Direction<A> {
     }
 
     /// A frame begins at an offset with this header.
-    fn begin<T: Transcript<A>, P: Pen>(
+    fn begin<T: Transcript, P: Pen>(
         &mut self,
         has_room: bool,
         at: u64,
@@ -187,7 +185,7 @@ impl<A: Allocator + Clone> Direction<A> {
     }
 
     /// A frame begins at an offset with this header, and its bytes are read.
-    fn begin_plain<T: Transcript<A>, P: Pen>(
+    fn begin_plain<T: Transcript, P: Pen>(
         &mut self,
         at: u64,
         header: &Header,
@@ -202,7 +200,7 @@ impl<A: Allocator + Clone> Direction<A> {
     }
 
     /// A frame begins at an offset, whose bytes are read, with these types.
-    fn begin_reader(&mut self, at: u64, types: Option<TypeTable<A>>) -> Result<(), AllocError> {
+    fn begin_reader(&mut self, at: u64, types: Option<TypeTable>) -> Result<(), AllocError> {
         let reader = self.new_reader(at, types)?;
         self.reader = Some(reader);
         Ok(())
@@ -212,14 +210,14 @@ impl<A: Allocator + Clone> Direction<A> {
     fn new_reader(
         &self,
         at: u64,
-        types: Option<TypeTable<A>>,
-    ) -> Result<Box<FrameReader<A>, A>, AllocError> {
-        let reader = FrameReader::new(self.alloc.to_copy()?, self.limits, at, types)?;
-        Ok(Box::new(self.alloc.to_copy()?, reader)?)
+        types: Option<TypeTable>,
+    ) -> Result<Box<FrameReader>, AllocError> {
+        let reader = FrameReader::new(self.limits, at, types)?;
+        Ok(Box::kit_new(reader)?)
     }
 
     /// Takes bytes which come next of the frame that is read, if one is.
-    fn take_body<T: Transcript<A>, P: Pen>(
+    fn take_body<T: Transcript, P: Pen>(
         &mut self,
         bytes: &[u8],
         transcript: &mut T,

@@ -6,7 +6,6 @@ use crate::cqlp_decode::{Decoder, Step};
 use crate::cqlp_note::Refusal;
 use crate::cqlp_text::{Pen, TextWriter};
 use crate::cqlp_type::TypeTable;
-use crate::kit_std::alloc::Allocator;
 
 /// The offset after this many bytes; the greatest number, if more.
 pub(crate) fn behind(at: u64, used: u64) -> u64 {
@@ -14,7 +13,7 @@ pub(crate) fn behind(at: u64, used: u64) -> u64 {
 }
 
 /// Begins a frame, and gives these types, if there are some.
-pub(crate) fn begin_frame<A: Allocator>(decoder: &mut Decoder<A>, types: Option<TypeTable<A>>) {
+pub(crate) fn begin_frame(decoder: &mut Decoder, types: Option<TypeTable>) {
     let _ = decoder.restart();
     if let Some(table) = types {
         let _ = decoder.give(table);
@@ -22,8 +21,8 @@ pub(crate) fn begin_frame<A: Allocator>(decoder: &mut Decoder<A>, types: Option<
 }
 
 /// Reports the events that more bytes say of the frame that begins there. Answers why it is refused, if it is.
-pub(crate) fn drain<T: Transcript<A>, P: Pen, A: Allocator>(
-    decoder: &mut Decoder<A>,
+pub(crate) fn drain<T: Transcript, P: Pen>(
+    decoder: &mut Decoder,
     input: &[u8],
     at: u64,
     transcript: &mut T,

@@ -1,7 +1,6 @@
 // Written by dist/erase from crates/cqlp_capture_frames/src/reader.rt.
 //! A frame of which bytes are read.
 
-use crate::kit_host::prelude::{AllocGlobal, Clone};
 use crate::cqlp_capture_frames::drain::{begin_frame, behind, drain};
 use crate::cqlp_capture_frames::noted::Noted;
 use crate::cqlp_capture_frames::transcript::Transcript;
@@ -9,11 +8,11 @@ use crate::cqlp_decode::Decoder;
 use crate::cqlp_note::Limits;
 use crate::cqlp_text::{Pen, TextWriter};
 use crate::cqlp_type::TypeTable;
-use crate::kit_std::alloc::{AllocError, Allocator, Global};
+use crate::kit_std::alloc::{AllocError};
 
 /// The decoder of one frame, which has its memory while the frame is read.
-pub(crate) struct FrameReader<A: Allocator = Global> {
-    decoder: Decoder<A>,
+pub(crate) struct FrameReader {
+    decoder: Decoder,
     /// Whether more of the frame is read: it was not refused.
     is_open: bool,
     /// Where the frame begins.
@@ -22,15 +21,14 @@ pub(crate) struct FrameReader<A: Allocator = Global> {
     came: Noted,
 }
 
-impl<A: Allocator + Clone> FrameReader<A> {
+impl FrameReader {
     /// Begins a frame at an offset, within these limits and with these types, if there are some. All memory is taken here.
     pub(crate) fn new(
-        alloc: A,
         limits: Limits,
         at: u64,
-        types: Option<TypeTable<A>>,
+        types: Option<TypeTable>,
     ) -> Result<Self, AllocError> {
-        let Ok(mut decoder) = Decoder::new(alloc, limits) else {
+        let Ok(mut decoder) = Decoder::new(limits) else {
             return Err(AllocError);
         };
         begin_frame(&mut decoder, types);
@@ -43,14 +41,14 @@ impl<A: Allocator + Clone> FrameReader<A> {
     }
 }
 
-impl<A: Allocator> FrameReader<A> {
+impl FrameReader {
     /// Whether more of the frame is read.
     pub(crate) fn is_open(&self) -> bool {
         self.is_open
     }
 
     /// Takes bytes that come next of the frame.
-    pub(crate) fn take<T: Transcript<A>, P: Pen>(
+    pub(crate) fn take<T: Transcript, P: Pen>(
         &mut self,
         bytes: &[u8],
         transcript: &mut T,
@@ -73,7 +71,7 @@ impl<A: Allocator> FrameReader<A> {
     }
 
     /// The frame came whole.
-    pub(crate) fn end<T: Transcript<A>, P: Pen>(
+    pub(crate) fn end<T: Transcript, P: Pen>(
         &self,
         transcript: &mut T,
         writer: &mut TextWriter<P>,
@@ -85,7 +83,7 @@ impl<A: Allocator> FrameReader<A> {
     }
 
     /// No more comes of the frame.
-    pub(crate) fn close<T: Transcript<A>, P: Pen>(
+    pub(crate) fn close<T: Transcript, P: Pen>(
         &self,
         transcript: &mut T,
         writer: &mut TextWriter<P>,

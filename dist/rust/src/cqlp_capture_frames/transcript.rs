@@ -6,11 +6,10 @@ use crate::cqlp_note::{Header, Reason};
 use crate::cqlp_tcp_reassembly::GapCause;
 use crate::cqlp_text::{Pen, TextWriter};
 use crate::cqlp_type::TypeTable;
-use crate::kit_std::alloc::Allocator;
 
 /// What writes down what happens in one direction of a connection, one thing after the other. Each call takes the text of what is reported to it, and
 /// offsets count from the start of the direction. After a fault nothing more is reported.
-pub trait Transcript<A: Allocator> {
+pub trait Transcript {
     /// What ends the text early: a fault of the output, or that memory is refused.
     type Fault;
 
@@ -24,7 +23,7 @@ pub trait Transcript<A: Allocator> {
         at: u64,
         header: &Header,
         writer: &mut TextWriter<P>,
-    ) -> Result<Option<TypeTable<A>>, Self::Fault>;
+    ) -> Result<Option<TypeTable>, Self::Fault>;
 
     /// The frame that began last says an event at an offset.
     fn event<P: Pen>(
@@ -71,7 +70,7 @@ pub trait Transcript<A: Allocator> {
     /// result (section 4.2.5.4 of `native_protocol_v4.spec`).
     fn end<P: Pen>(
         &mut self,
-        types: &TypeTable<A>,
+        types: &TypeTable,
         writer: &mut TextWriter<P>,
     ) -> Result<(), Self::Fault>;
 

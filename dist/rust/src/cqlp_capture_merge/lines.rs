@@ -1,16 +1,16 @@
 // Written by dist/erase from crates/cqlp_capture_merge/src/lines.rt.
 //! The lines of a file, one after the other.
 
-use crate::kit_host::prelude::{AllocGlobal, Vec, vec};
+use crate::kit_host::prelude::{Vec, vec};
 use crate::cqlp_note::{IoFault, Source};
-use crate::kit_std::alloc::{AllocError, Allocator, Global};
+use crate::kit_std::alloc::{AllocError};
 
 /// How many bytes a line has at most, with its end.
 pub(crate) const LONGEST: usize = 1 << 20;
 
 /// The lines of a file. All memory is taken in `new`.
-pub(crate) struct Lines<A: Allocator = Global> {
-    room: Vec<u8, A>,
+pub(crate) struct Lines {
+    room: Vec<u8>,
     /// Where the line begins, and how far it goes as far as is known.
     begin: usize,
     end: usize,
@@ -31,10 +31,10 @@ pub(crate) enum Step {
     End,
 }
 
-impl<A: Allocator> Lines<A> {
-    pub(crate) fn new(alloc: A) -> Result<Self, AllocError> {
+impl Lines {
+    pub(crate) fn new() -> Result<Self, AllocError> {
         Ok(Lines {
-            room: vec![in alloc; 0; LONGEST]?,
+            room: vec![0; LONGEST]?,
             begin: 0,
             end: 0,
             next: 0,

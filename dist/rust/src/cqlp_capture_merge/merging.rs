@@ -1,20 +1,20 @@
 // Written by dist/erase from crates/cqlp_capture_merge/src/merging.rt.
 //! The summary that objects are added to.
 
-use crate::kit_host::prelude::{AllocGlobal, Clone, ToCopy, Vec, vec};
+use crate::kit_host::prelude::{Vec, vec};
 use crate::cqlp_capture_merge::object::{Entry, NoObject, add_buckets};
 use crate::cqlp_capture_summary::{Summary, Tally};
 use crate::json::Value;
-use crate::kit_std::alloc::{AllocError, Allocator, Global};
+use crate::kit_std::alloc::{AllocError};
 
 /// How many names have places.
 pub(crate) const PLACES: usize = 1024;
 
 /// The summary that the objects of files are added to, and what may be missing of its names. All memory is taken in `new`.
-pub(crate) struct Merging<A: Allocator = Global> {
-    summary: Summary<A>,
+pub(crate) struct Merging {
+    summary: Summary,
     /// For each place the number of the last file in which its name was.
-    files: Vec<u64, A>,
+    files: Vec<u64>,
     /// The number of this file, counted from 1.
     file: u64,
     /// What an object counts.
@@ -27,14 +27,11 @@ pub(crate) struct Merging<A: Allocator = Global> {
     others: u64,
 }
 
-impl<A: Allocator> Merging<A> {
-    pub(crate) fn new(alloc: A) -> Result<Self, AllocError>
-    where
-        A: Clone,
-    {
+impl Merging {
+    pub(crate) fn new() -> Result<Self, AllocError> {
         Ok(Merging {
-            summary: Summary::new(alloc.to_copy()?, PLACES)?,
-            files: vec![in alloc; 0; PLACES]?,
+            summary: Summary::new(PLACES)?,
+            files: vec![0; PLACES]?,
             file: 1,
             counts: Tally::new(),
             before: 0,
@@ -43,15 +40,15 @@ impl<A: Allocator> Merging<A> {
         })
     }
 
-    pub(crate) fn summary(&self) -> &Summary<A> {
+    pub(crate) fn summary(&self) -> &Summary {
         &self.summary
     }
 
     /// Adds an object of this file, of which this is what it says of its name.
-    pub(crate) fn add<B: Allocator>(
+    pub(crate) fn add(
         &mut self,
         entry: &Entry<'_>,
-        value: &Value<'_, B>,
+        value: &Value<'_>,
     ) -> Result<(), NoObject> {
         self.counts.clear();
         self.counts.set_figures(&entry.figures);

@@ -5,7 +5,6 @@ use crate::kit_host::prelude::{String};
 use crate::cqlp_capture_summary::{Figures, Tally, Times};
 use crate::cqlp_options::{AskedTime, asked_time};
 use crate::json::Value;
-use crate::kit_std::alloc::Allocator;
 
 /// It is no such object.
 #[derive(Clone, Copy)]
@@ -25,7 +24,7 @@ pub(crate) struct Entry<'a> {
 }
 
 impl<'a> Entry<'a> {
-    pub(crate) fn of<A: Allocator>(value: &Value<'a, A>) -> Result<Entry<'a>, NoObject> {
+    pub(crate) fn of(value: &Value<'a>) -> Result<Entry<'a>, NoObject> {
         Ok(Entry {
             by: heading_of(value)?,
             name: name_of(value)?,
@@ -41,14 +40,14 @@ impl<'a> Entry<'a> {
     }
 }
 
-fn member<'v, 'a, A: Allocator>(
-    value: &'v Value<'a, A>,
+fn member<'v, 'a>(
+    value: &'v Value<'a>,
     name: &str,
-) -> Result<&'v Value<'a, A>, NoObject> {
+) -> Result<&'v Value<'a>, NoObject> {
     value.get(name).ok_or(NoObject)
 }
 
-fn heading_of<A: Allocator>(value: &Value<'_, A>) -> Result<&'static str, NoObject> {
+fn heading_of(value: &Value<'_>) -> Result<&'static str, NoObject> {
     let by = member(value, "by")?.as_str().ok_or(NoObject)?;
     heading_named(by).ok_or(NoObject)
 }
@@ -66,7 +65,7 @@ fn heading_named(by: &str) -> Option<&'static str> {
     }
 }
 
-fn name_of<'a, A: Allocator>(value: &Value<'a, A>) -> Result<Option<&'a str>, NoObject> {
+fn name_of<'a>(value: &Value<'a>) -> Result<Option<&'a str>, NoObject> {
     match member(value, "name")? {
         Value::Null => Ok(None),
         Value::String(text) => Ok(Some(*text)),
@@ -74,14 +73,14 @@ fn name_of<'a, A: Allocator>(value: &Value<'a, A>) -> Result<Option<&'a str>, No
     }
 }
 
-fn flag_of<A: Allocator>(value: &Value<'_, A>, name: &str) -> Result<bool, NoObject> {
+fn flag_of(value: &Value<'_>, name: &str) -> Result<bool, NoObject> {
     match member(value, name)? {
         Value::Bool(flag) => Ok(*flag),
         _ => Err(NoObject),
     }
 }
 
-fn figures_of<A: Allocator>(value: &Value<'_, A>) -> Result<Figures, NoObject> {
+fn figures_of(value: &Value<'_>) -> Result<Figures, NoObject> {
     Ok(Figures {
         count: number_of(member(value, "count")?)?,
         errors: number_of(member(value, "errors")?)?,
@@ -95,7 +94,7 @@ fn figures_of<A: Allocator>(value: &Value<'_, A>) -> Result<Figures, NoObject> {
     })
 }
 
-fn times_of<A: Allocator>(value: &Value<'_, A>) -> Result<Option<Times>, NoObject> {
+fn times_of(value: &Value<'_>) -> Result<Option<Times>, NoObject> {
     if let Value::Null = member(value, "max")? {
         return Ok(None);
     }
@@ -108,7 +107,7 @@ fn times_of<A: Allocator>(value: &Value<'_, A>) -> Result<Option<Times>, NoObjec
 }
 
 /// A number, which is between quotes above 2^53.
-fn number_of<A: Allocator>(value: &Value<'_, A>) -> Result<u64, NoObject> {
+fn number_of(value: &Value<'_>) -> Result<u64, NoObject> {
     match value {
         Value::String(text) => whole_number(text.as_bytes()).ok_or(NoObject),
         _ => value.as_u64().ok_or(NoObject),
@@ -133,12 +132,12 @@ fn whole_number(digits: &[u8]) -> Option<u64> {
 }
 
 /// Nanoseconds, of a member in seconds.
-fn seconds_of<A: Allocator>(value: &Value<'_, A>, name: &str) -> Result<u64, NoObject> {
+fn seconds_of(value: &Value<'_>, name: &str) -> Result<u64, NoObject> {
     nanoseconds_of(member(value, name)?)
 }
 
 /// Nanoseconds, of seconds that are between quotes where they have more than 2^53 of them.
-fn nanoseconds_of<A: Allocator>(value: &Value<'_, A>) -> Result<u64, NoObject> {
+fn nanoseconds_of(value: &Value<'_>) -> Result<u64, NoObject> {
     match value {
         Value::Number(text) => nanoseconds_in(*text),
         Value::String(text) => nanoseconds_in(*text),
@@ -154,7 +153,7 @@ fn nanoseconds_in(text: &str) -> Result<u64, NoObject> {
 }
 
 /// Nanoseconds since 1970-01-01 00:00:00 UTC, of a member that is a date and a time of day, or null.
-fn utc_of<A: Allocator>(value: &Value<'_, A>, name: &str) -> Result<Option<u64>, NoObject> {
+fn utc_of(value: &Value<'_>, name: &str) -> Result<Option<u64>, NoObject> {
     match member(value, name)? {
         Value::Null => Ok(None),
         Value::String(text) => match asked_time(text.as_bytes()) {
@@ -166,9 +165,9 @@ fn utc_of<A: Allocator>(value: &Value<'_, A>, name: &str) -> Result<Option<u64>,
 }
 
 /// Counts the times of the buckets of an object, each a pair of the greatest time that it may have and how many it has.
-pub(crate) fn add_buckets<A: Allocator>(
+pub(crate) fn add_buckets(
     counts: &mut Tally,
-    value: &Value<'_, A>,
+    value: &Value<'_>,
 ) -> Result<(), NoObject> {
     let Value::Array(buckets) = member(value, "buckets")? else {
         return Err(NoObject);
@@ -179,7 +178,7 @@ pub(crate) fn add_buckets<A: Allocator>(
     Ok(())
 }
 
-fn add_bucket<A: Allocator>(counts: &mut Tally, pair: &Value<'_, A>) -> Result<(), NoObject> {
+fn add_bucket(counts: &mut Tally, pair: &Value<'_>) -> Result<(), NoObject> {
     let greatest = nanoseconds_of(pair.at(0).ok_or(NoObject)?)?;
     let count = number_of(pair.at(1).ok_or(NoObject)?)?;
     if pair.at(2).is_some() {

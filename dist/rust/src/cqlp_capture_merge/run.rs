@@ -1,7 +1,7 @@
 // Written by dist/erase from crates/cqlp_capture_merge/src/run.rt.
 //! Files of summaries, read and added.
 
-use crate::kit_host::prelude::{AllocGlobal};
+use crate::kit_host::prelude::{KitVec};
 use crate::cqlp_capture_merge::files::{FileNames, Place};
 use crate::cqlp_capture_merge::lines::{Lines, Step};
 use crate::cqlp_capture_merge::merging::Merging;
@@ -15,7 +15,7 @@ use crate::cqlp_note::{IoFault, Target};
 use crate::cqlp_text::exit_status::{DONE, FAULT, NOT_WHOLE};
 use crate::cqlp_text::{Ending, Pen, TextWriter, ending_line};
 use crate::json::{Error, Scratch, Value};
-use crate::kit_std::alloc::{AllocError, Allocator, Global};
+use crate::kit_std::alloc::{AllocError};
 
 /// How the sum of summaries is written.
 #[derive(Clone, Copy)]
@@ -56,18 +56,17 @@ struct Heading {
 /// Reads objects of summaries, a line each, adds those of the same name, and writes their sum to `out`, or to `err` why there is none. Answers the exit status
 /// and the two outputs. All memory but for an object is taken at the start.
 pub fn merge_summaries<I: CaptureInput, O: Target, E: Target>(
-    alloc: Global,
     names: FileNames<'_>,
     form: MergedAs,
     input: &mut I,
     out: O,
     err: E,
 ) -> (u8, O, E) {
-    let mut merging = match Merging::new(alloc) {
+    let mut merging = match Merging::new() {
         Ok(merging) => merging,
         Err(AllocError) => return (FAULT, out, report(Ending::NoMemory, err)),
     };
-    match read_files(alloc, &mut merging, input) {
+    match read_files(&mut merging, input) {
         Ok(heading) => write(merging.summary(), heading, form, out, err),
         Err(Fault::Refused(place, refusal)) => {
             let (status, err) = refuse(names, place, refusal, err);
@@ -80,16 +79,14 @@ pub fn merge_summaries<I: CaptureInput, O: Target, E: Target>(
 
 /// Reads all files. Answers what they count by, which is statements where there are no lines.
 fn read_files<I: CaptureInput>(
-    alloc: Global,
     merging: &mut Merging,
     input: &mut I,
 ) -> Result<&'static str, Fault> {
-    let mut lines = Lines::new(alloc)?;
-    let mut scratch = Scratch::new(alloc);
+    let mut lines = Lines::new()?;
+    let mut scratch = Scratch::new();
     let mut heading = None;
     for file in 0..usize::MAX {
         heading = read_file(
-            alloc,
             merging,
             &mut lines,
             &mut scratch,
@@ -109,7 +106,6 @@ fn read_files<I: CaptureInput>(
 
 /// Reads a file. Answers what its lines and those before count by.
 fn read_file<I: CaptureInput>(
-    alloc: Global,
     merging: &mut Merging,
     lines: &mut Lines,
     scratch: &mut Scratch,
@@ -129,7 +125,7 @@ fn read_file<I: CaptureInput>(
             Step::TooLong => return Err(Fault::Refused(place, Refusal::TooLong)),
             Step::Line => {
                 if !is_blank(lines.line()) {
-                    let found = read_line(alloc, merging, lines.line(), scratch, heading, place)?;
+                    let found = read_line(merging, lines.line(), scratch, heading, place)?;
                     heading = Some(found);
                 }
             }
@@ -147,14 +143,13 @@ fn is_blank(line: &[u8]) -> bool {
 
 /// Adds the object of a line. Answers what it counts by.
 fn read_line(
-    alloc: Global,
     merging: &mut Merging,
     line: &[u8],
     scratch: &mut Scratch,
     before: Option<Heading>,
     place: Place,
 ) -> Result<Heading, Fault> {
-    match Value::from_slice(alloc, line, scratch) {
+    match Value::from_slice(line, scratch) {
         Ok(value) => read_value(merging, &value, before, place),
         Err(Error::OutOfMemory) => Err(Fault::NoMemory),
         Err(_) => Err(Fault::Refused(place, Refusal::NoObject)),
@@ -195,8 +190,8 @@ fn other_heading(before: Option<Heading>, by: &'static str) -> Option<Refusal> {
 }
 
 /// Writes a summary. Answers the exit status and the two outputs.
-fn write<A: Allocator, O: Target, E: Target>(
-    summary: &Summary<A>,
+fn write<O: Target, E: Target>(
+    summary: &Summary,
     by: &str,
     form: MergedAs,
     mut out: O,
@@ -208,8 +203,8 @@ fn write<A: Allocator, O: Target, E: Target>(
     }
 }
 
-fn put_merged<A: Allocator, O: Target>(
-    summary: &Summary<A>,
+fn put_merged<O: Target>(
+    summary: &Summary,
     by: &str,
     form: MergedAs,
     out: &mut O,
@@ -224,9 +219,9 @@ fn put_merged<A: Allocator, O: Target>(
     answer
 }
 
-fn put_in_form<A: Allocator, P: Pen>(
+fn put_in_form<P: Pen>(
     writer: &mut TextWriter<P>,
-    summary: &Summary<A>,
+    summary: &Summary,
     by: &str,
     form: MergedAs,
 ) -> Result<(), SinkFault> {

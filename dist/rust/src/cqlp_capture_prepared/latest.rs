@@ -1,26 +1,25 @@
 // Written by dist/erase from crates/cqlp_capture_prepared/src/latest.rt.
 //! Values under their keys, of which the latest stay.
 
-use crate::kit_host::prelude::{AllocGlobal, Vec};
+use crate::kit_host::prelude::{KitVec, Vec};
 use crate::cqlp_capture_prepared::error::NewPreparedError;
-use crate::kit_std::alloc::{Allocator, Global};
 
 /// Values under their keys, at most as many as the limit: the one that was put or used last comes first, and where all places are taken the
 /// one goes that was put or used longest ago. All memory is taken in `new`.
-pub struct Latest<K, V, A: Allocator = Global> {
+pub struct Latest<K, V> {
     limit: u16,
-    entries: Vec<(K, V), A>,
+    entries: Vec<(K, V)>,
 }
 
-impl<K: Eq, V, A: Allocator> Latest<K, V, A> {
+impl<K: Eq, V> Latest<K, V> {
     /// None yet. At most `limit` will be, 1 to 65,535. All memory is taken here, in one request: so many times the size of a key and a value.
-    pub fn new(alloc: A, limit: u16) -> Result<Self, NewPreparedError> {
+    pub fn new(limit: u16) -> Result<Self, NewPreparedError> {
         if limit == 0 {
             return Err(NewPreparedError::BadLimit);
         }
         Ok(Latest {
             limit,
-            entries: Vec::with_capacity(alloc, limit as usize)?,
+            entries: Vec::kit_with_capacity(limit as usize)?,
         })
     }
 

@@ -1,26 +1,24 @@
 // Written by dist/erase from crates/cqlp_capture_prepared/src/prepared_types.rt.
 //! The types of statements that were prepared, for the pages that answer EXECUTEs.
 
-use crate::kit_host::prelude::{AllocGlobal, Clone, ToCopy};
 use crate::cqlp_capture_prepared::error::NewPreparedError;
 use crate::cqlp_capture_prepared::latest::Latest;
 use crate::cqlp_capture_prepared::statement_id::StatementId;
 use crate::cqlp_capture_prepared::statement_types::StatementTypes;
 use crate::cqlp_note::NoMemory;
 use crate::cqlp_type::TypeTable;
-use crate::kit_std::alloc::{Allocator, Global};
 
 /// The types of statements that were prepared, and the statements that EXECUTEs name which wait for their responses.
 ///
 /// A page whose metadata the server left out (flag No_metadata, section 4.2.5.2 of `native_protocol_v4.spec`) has the types that the PREPARED
 /// response of its statement had. `new` takes memory for both lists, in two requests; after it only `prepared` and `types_for` ask for some,
 /// one request each, for a copy of a table with the room that the table has.
-pub struct PreparedTypes<A: Allocator = Global> {
-    known: Latest<StatementId, StatementTypes<A>, A>,
-    awaited: Latest<i16, StatementId, A>,
+pub struct PreparedTypes {
+    known: Latest<StatementId, StatementTypes>,
+    awaited: Latest<i16, StatementId>,
 }
 
-impl<A: Allocator> PreparedTypes<A> {
+impl PreparedTypes {
     /// Says that an EXECUTE under this stream id names the statement with this id. It takes the place of one that waits under the same stream
     /// id, and where too many wait, of the one that waits longest. An id of more than [`StatementId::MOST`] bytes names nothing that is known.
     pub fn executed(&mut self, stream: i16, id: &[u8]) {
@@ -45,7 +43,7 @@ impl<A: Allocator> PreparedTypes<A> {
     }
 
     /// The types that the last PREPARED response said which named this id, if they are still known.
-    pub fn types_of(&self, id: &StatementId) -> Option<&TypeTable<A>> {
+    pub fn types_of(&self, id: &StatementId) -> Option<&TypeTable> {
         let types = self.known.get(id)?;
         Some(&types.table)
     }
@@ -62,15 +60,15 @@ impl<A: Allocator> PreparedTypes<A> {
     }
 }
 
-impl<A: Allocator + Clone> PreparedTypes<A> {
+impl PreparedTypes {
     /// Nothing is known. At most `statements` statements will be, and at most `executes` EXECUTEs wait, 1 to 65,535 each.
-    pub fn new(alloc: A, statements: u16, executes: u16) -> Result<Self, NewPreparedError> {
+    pub fn new(statements: u16, executes: u16) -> Result<Self, NewPreparedError> {
         if statements == 0 || executes == 0 {
             return Err(NewPreparedError::BadLimit);
         }
         Ok(PreparedTypes {
-            known: Latest::new(alloc.to_copy()?, statements)?,
-            awaited: Latest::new(alloc, executes)?,
+            known: Latest::new(statements)?,
+            awaited: Latest::new(executes)?,
         })
     }
 
@@ -78,7 +76,7 @@ impl<A: Allocator + Clone> PreparedTypes<A> {
     /// that had the id, and where all places are taken, of the one that was prepared or executed longest ago. A statement with an id of more
     /// than [`StatementId::MOST`] bytes is not kept, and no memory is asked for. Where memory for the copy of the table is refused, nothing
     /// changes.
-    pub fn prepared(&mut self, id: &[u8], types: &TypeTable<A>) -> Result<(), NoMemory> {
+    pub fn prepared(&mut self, id: &[u8], types: &TypeTable) -> Result<(), NoMemory> {
         if let Some(id) = StatementId::new(id) {
             let table = types.clone_table()?;
             self.known.put(id, StatementTypes { table });
@@ -88,14 +86,14 @@ impl<A: Allocator + Clone> PreparedTypes<A> {
 
     /// Says that a response came under this stream id, as [`PreparedTypes::answered`] does, and copies the types of the statement for
     /// `Decoder::give`. Memory is asked for only where there are types.
-    pub fn types_for(&mut self, stream: i16) -> Result<Option<TypeTable<A>>, NoMemory> {
+    pub fn types_for(&mut self, stream: i16) -> Result<Option<TypeTable>, NoMemory> {
         match self.answered(stream) {
             Some(id) => self.copy_of(&id),
             None => Ok(None),
         }
     }
 
-    fn copy_of(&self, id: &StatementId) -> Result<Option<TypeTable<A>>, NoMemory> {
+    fn copy_of(&self, id: &StatementId) -> Result<Option<TypeTable>, NoMemory> {
         match self.types_of(id) {
             Some(types) => Ok(Some(types.clone_table()?)),
             None => Ok(None),

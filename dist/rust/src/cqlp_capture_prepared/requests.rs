@@ -6,7 +6,6 @@ use crate::cqlp_capture_prepared::prepared_types::PreparedTypes;
 use crate::cqlp_note::{Header, Opcode};
 use crate::cqlp_observer::{Heads, Heard, HeardStep, Unread};
 use crate::cqlp_tcp_reassembly::StreamStep;
-use crate::kit_std::alloc::Allocator;
 
 /// The requests of a connection: where their frames begin and end, and the EXECUTE whose id has not come whole, if one is under way. Takes no
 /// memory.
@@ -26,11 +25,11 @@ impl Requests {
 
     /// Takes what the direction of the requests delivers, with its bytes, and reports the EXECUTEs among them, and the other requests, to `known`: each at its
     /// header, and an EXECUTE again where its id came whole. With a SYN nothing is known any more.
-    pub fn hear<A: Allocator>(
+    pub fn hear(
         &mut self,
         step: StreamStep,
         bytes: &[u8],
-        known: &mut PreparedTypes<A>,
+        known: &mut PreparedTypes,
     )
     {
         match step {
@@ -49,7 +48,7 @@ impl Requests {
         }
     }
 
-    fn begin<A: Allocator>(&mut self, syn: bool, known: &mut PreparedTypes<A>) {
+    fn begin(&mut self, syn: bool, known: &mut PreparedTypes) {
         *self = Requests::new(syn);
         if syn {
             known.clear();
@@ -57,7 +56,7 @@ impl Requests {
     }
 
     /// Takes bytes, the first of which begins a segment or not.
-    fn hear_bytes<A: Allocator>(&mut self, begins: bool, bytes: &[u8], known: &mut PreparedTypes<A>) {
+    fn hear_bytes(&mut self, begins: bool, bytes: &[u8], known: &mut PreparedTypes) {
         let mut unread = Unread::new(bytes, begins);
         while unread.steps > 0 {
             let HeardStep { used, heard } = self.heads.take(unread.bytes, None, unread.begins);
@@ -70,7 +69,7 @@ impl Requests {
     }
 
     /// Takes what bytes are.
-    fn take_heard<A: Allocator>(&mut self, heard: Heard, bytes: &[u8], known: &mut PreparedTypes<A>) {
+    fn take_heard(&mut self, heard: Heard, bytes: &[u8], known: &mut PreparedTypes) {
         match heard {
             Heard::Begins(header) => {
                 known.forget(header.stream);
@@ -83,7 +82,7 @@ impl Requests {
     }
 
     /// Takes bytes of a body.
-    fn take_body<A: Allocator>(&mut self, bytes: &[u8], known: &mut PreparedTypes<A>) {
+    fn take_body(&mut self, bytes: &[u8], known: &mut PreparedTypes) {
         let Some(mut execute) = self.execute.take() else {
             return;
         };

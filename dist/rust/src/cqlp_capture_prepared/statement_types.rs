@@ -2,10 +2,9 @@
 //! The types of statements.
 
 use crate::cqlp_type::TypeTable;
-use crate::kit_std::alloc::{Allocator, Global};
 
 /// The types of the result of a statement.
-pub(crate) struct StatementTypes<A: Allocator = Global> {
-    pub(crate) table: TypeTable<A>,
+pub(crate) struct StatementTypes {
+    pub(crate) table: TypeTable,
 }
 

@@ -1,13 +1,11 @@
 // Written by dist/erase from crates/cqlp_capture_rows/src/capturing.rt.
 //! A capture whose pages are written.
 
-use crate::kit_host::prelude::{AllocGlobal};
 use crate::cqlp_capture_rows::rows::Rows;
 use crate::cqlp_capture_streams::{
     CaptureInput, LastWord, StreamsFault, StreamsLimits, conclude_capture, read_capture,
 };
 use crate::cqlp_note::Target;
-use crate::kit_std::alloc::Global;
 
 /// Reads the frames on one connection of a capture with nodes that listen on these ports, within these limits: on the one with this number;
 /// the first has the number 1. Writes the text of the pages among them to `out`, and what the capture was, or the fault line, to `err`. Answers
@@ -15,7 +13,6 @@ use crate::kit_std::alloc::Global;
 ///
 /// After a fault nothing more is asked of what failed.
 pub(crate) fn write_rows<R: CaptureInput, O: Target, E: Target>(
-    alloc: Global,
     limits: StreamsLimits,
     ports: &[u16],
     connection: u64,
@@ -23,7 +20,7 @@ pub(crate) fn write_rows<R: CaptureInput, O: Target, E: Target>(
     out: O,
     err: E,
 ) -> (u8, O, E) {
-    let mut rows = match Rows::new(alloc, connection, out) {
+    let mut rows = match Rows::new(connection, out) {
         Ok(rows) => rows,
         Err(out) => {
             let answer = Err(StreamsFault::NoMemory);
@@ -31,7 +28,7 @@ pub(crate) fn write_rows<R: CaptureInput, O: Target, E: Target>(
             return (status, out, err);
         }
     };
-    let answer = read_capture(alloc, limits, ports, input, &mut rows);
+    let answer = read_capture(limits, ports, input, &mut rows);
     let (status, err) = conclude_capture(&answer, ports, &LastWord("rows"), err);
     (status, rows.into_output(), err)
 }

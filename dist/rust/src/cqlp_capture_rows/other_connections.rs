@@ -1,28 +1,27 @@
 // Written by dist/erase from crates/cqlp_capture_rows/src/other_connections.rt.
 //! The other connections of a capture, of which the PREPAREDs are read.
 
-use crate::kit_host::prelude::{AllocGlobal, Clone, ToCopy};
 use crate::cqlp_capture_rows::other_types::OtherTypes;
 use crate::cqlp_capture_rows::prepared_frames::PreparedFrames;
 use crate::cqlp_note::NoMemory;
 use crate::cqlp_observer::{Heads, Heard, HeardStep, Unread};
 use crate::cqlp_tcp_reassembly::StreamStep;
-use crate::kit_std::alloc::{AllocError, Allocator, Global};
+use crate::kit_std::alloc::{AllocError};
 use crate::kit_std::collections::BTreeMap;
 
 /// Where the frames of the responses of other connections begin and end, by the connections' numbers, and the frames that may be PREPAREDs.
 /// Memory is taken for each connection as it begins, and for the bytes of such a frame as they come.
-pub(crate) struct OtherConnections<A: Allocator = Global> {
-    heads: BTreeMap<u64, Heads, A>,
-    frames: PreparedFrames<A>,
+pub(crate) struct OtherConnections {
+    heads: BTreeMap<u64, Heads>,
+    frames: PreparedFrames,
 }
 
-impl<A: Allocator + Clone> OtherConnections<A> {
+impl OtherConnections {
     /// No connections.
-    pub(crate) fn new(alloc: A) -> Result<Self, AllocError> {
+    pub(crate) fn new() -> Result<Self, AllocError> {
         Ok(OtherConnections {
-            heads: BTreeMap::new(alloc.to_copy()?),
-            frames: PreparedFrames::new(alloc)?,
+            heads: BTreeMap::new(),
+            frames: PreparedFrames::new()?,
         })
     }
 
@@ -40,7 +39,7 @@ impl<A: Allocator + Clone> OtherConnections<A> {
         number: u64,
         step: StreamStep,
         bytes: &[u8],
-        others: &mut OtherTypes<A>,
+        others: &mut OtherTypes,
     ) -> Result<(), NoMemory> {
         match self.heads.get_mut(&number) {
             Some(heads) => hear_in(heads, &mut self.frames, others, number, step, bytes),
@@ -56,10 +55,10 @@ impl<A: Allocator + Clone> OtherConnections<A> {
 }
 
 /// Takes what the responses of this connection deliver.
-fn hear_in<A: Allocator + Clone>(
+fn hear_in(
     heads: &mut Heads,
-    frames: &mut PreparedFrames<A>,
-    others: &mut OtherTypes<A>,
+    frames: &mut PreparedFrames,
+    others: &mut OtherTypes,
     number: u64,
     step: StreamStep,
     bytes: &[u8],
@@ -91,10 +90,10 @@ fn hear_in<A: Allocator + Clone>(
 }
 
 /// Takes bytes, the first of which begins a segment or not.
-fn hear_bytes<A: Allocator + Clone>(
+fn hear_bytes(
     heads: &mut Heads,
-    frames: &mut PreparedFrames<A>,
-    others: &mut OtherTypes<A>,
+    frames: &mut PreparedFrames,
+    others: &mut OtherTypes,
     number: u64,
     begins: bool,
     bytes: &[u8],
@@ -112,9 +111,9 @@ fn hear_bytes<A: Allocator + Clone>(
 }
 
 /// Takes what bytes are.
-fn take_heard<A: Allocator + Clone>(
-    frames: &mut PreparedFrames<A>,
-    others: &mut OtherTypes<A>,
+fn take_heard(
+    frames: &mut PreparedFrames,
+    others: &mut OtherTypes,
     number: u64,
     heard: Heard,
     bytes: &[u8],

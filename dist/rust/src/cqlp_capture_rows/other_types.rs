@@ -1,7 +1,6 @@
 // Written by dist/erase from crates/cqlp_capture_rows/src/other_types.rt.
 //! What PREPAREDs on other connections say of statements.
 
-use crate::kit_host::prelude::{AllocGlobal, Clone, ToCopy};
 use crate::cqlp_capture_rows::other_limits::{OTHER_LIMITS, OTHER_STATEMENTS};
 use crate::cqlp_capture_rows::page::note_id;
 use crate::cqlp_capture_rows::silent::Silent;
@@ -12,20 +11,19 @@ use crate::cqlp_note::{Header, NoMemory, Reason};
 use crate::cqlp_tcp_reassembly::{GapCause, StreamStep};
 use crate::cqlp_text::{Pen, TextWriter};
 use crate::cqlp_type::TypeTable;
-use crate::kit_std::alloc::{AllocError, Allocator, Global};
+use crate::kit_std::alloc::{AllocError};
 
 /// The types of statements that were prepared on other connections, the latest of each: at most [`OTHER_STATEMENTS`], of which those go first that were
 /// prepared, or used by a page, longest ago.
-pub(crate) struct OtherTypes<A: Allocator = Global> {
-    alloc: A,
-    known: PreparedTypes<A>,
+pub(crate) struct OtherTypes {
+    known: PreparedTypes,
     /// The id that the frame named which is read.
     id: Option<StatementId>,
 }
 
-impl<A: Allocator> OtherTypes<A> {
+impl OtherTypes {
     /// The types that the last PREPARED said which named this id, if they are still known.
-    pub(crate) fn types_of(&self, id: &StatementId) -> Option<&TypeTable<A>> {
+    pub(crate) fn types_of(&self, id: &StatementId) -> Option<&TypeTable> {
         self.known.types_of(id)
     }
 
@@ -35,12 +33,11 @@ impl<A: Allocator> OtherTypes<A> {
     }
 }
 
-impl<A: Allocator + Clone> OtherTypes<A> {
+impl OtherTypes {
     /// Nothing is known. Memory for the list is taken here.
-    pub(crate) fn new(alloc: A) -> Result<Self, AllocError> {
-        match PreparedTypes::new(alloc.to_copy()?, OTHER_STATEMENTS, 1) {
+    pub(crate) fn new() -> Result<Self, AllocError> {
+        match PreparedTypes::new(OTHER_STATEMENTS, 1) {
             Ok(known) => Ok(OtherTypes {
-                alloc,
                 known,
                 id: None,
             }),
@@ -50,7 +47,7 @@ impl<A: Allocator + Clone> OtherTypes<A> {
 
     /// Reads a frame that came whole. If it is a PREPARED, the types of its statement's result are known.
     pub(crate) fn learn(&mut self, frame: &[u8]) -> Result<(), NoMemory> {
-        let mut direction = Direction::new(self.alloc.to_copy()?, OTHER_LIMITS, true);
+        let mut direction = Direction::new(OTHER_LIMITS, true);
         direction.restart(true);
         let step = StreamStep::Payload {
             from: 0,
@@ -64,7 +61,7 @@ impl<A: Allocator + Clone> OtherTypes<A> {
     }
 }
 
-impl<A: Allocator + Clone> Transcript<A> for OtherTypes<A> {
+impl Transcript for OtherTypes {
     type Fault = ReportFault;
 
     fn no_memory() -> ReportFault {
@@ -76,7 +73,7 @@ impl<A: Allocator + Clone> Transcript<A> for OtherTypes<A> {
         _at: u64,
         _header: &Header,
         _writer: &mut TextWriter<P>,
-    ) -> Result<Option<TypeTable<A>>, ReportFault> {
+    ) -> Result<Option<TypeTable>, ReportFault> {
         self.id = None;
         Ok(None)
     }
@@ -130,7 +127,7 @@ impl<A: Allocator + Clone> Transcript<A> for OtherTypes<A> {
 
     fn end<P: Pen>(
         &mut self,
-        types: &TypeTable<A>,
+        types: &TypeTable,
         _writer: &mut TextWriter<P>,
     ) -> Result<(), ReportFault> {
         if let Some(id) = &self.id {

@@ -1,24 +1,22 @@
 // Written by dist/erase from crates/cqlp_capture_rows/src/prepared_frames.rt.
 //! The frames of other connections that may be PREPAREDs, while their bytes come.
 
-use crate::kit_host::prelude::{AllocGlobal, Clone, ToCopy};
 use crate::cqlp_capture_rows::other_limits::{LONGEST_PREPARED, OTHER_FRAMES};
 use crate::cqlp_capture_rows::prepared_frame::PreparedFrame;
 use crate::cqlp_capture_prepared::{Latest, NewPreparedError};
 use crate::cqlp_note::{Header, Opcode};
-use crate::kit_std::alloc::{AllocError, Allocator, Global};
+use crate::kit_std::alloc::{AllocError};
 
 /// The frame of each connection that may be a PREPARED, at most [`OTHER_FRAMES`]: of too many the one goes of which bytes came longest ago.
-pub(crate) struct PreparedFrames<A: Allocator = Global> {
-    alloc: A,
-    frames: Latest<u64, PreparedFrame<A>, A>,
+pub(crate) struct PreparedFrames {
+    frames: Latest<u64, PreparedFrame>,
 }
 
-impl<A: Allocator + Clone> PreparedFrames<A> {
+impl PreparedFrames {
     /// There are none. Memory for the list is taken here, and not for bytes.
-    pub(crate) fn new(alloc: A) -> Result<Self, AllocError> {
-        match Latest::new(alloc.to_copy()?, OTHER_FRAMES) {
-            Ok(frames) => Ok(PreparedFrames { alloc, frames }),
+    pub(crate) fn new() -> Result<Self, AllocError> {
+        match Latest::new(OTHER_FRAMES) {
+            Ok(frames) => Ok(PreparedFrames { frames }),
             Err(NewPreparedError::NoMemory | NewPreparedError::BadLimit) => Err(AllocError),
         }
     }
@@ -26,7 +24,7 @@ impl<A: Allocator + Clone> PreparedFrames<A> {
     /// A frame with this header begins on the connection with this number.
     pub(crate) fn begin(&mut self, number: u64, header: &Header) -> Result<(), AllocError> {
         if may_prepare(header) {
-            let frame = PreparedFrame::new(self.alloc.to_copy()?, header);
+            let frame = PreparedFrame::new(header);
             self.frames.put(number, frame);
         } else {
             let _ = self.end(number);
@@ -46,7 +44,7 @@ impl<A: Allocator + Clone> PreparedFrames<A> {
     }
 
     /// Its frame ends. Answers that, if it may be a PREPARED.
-    pub(crate) fn end(&mut self, number: u64) -> Option<PreparedFrame<A>> {
+    pub(crate) fn end(&mut self, number: u64) -> Option<PreparedFrame> {
         self.frames.take(&number)
     }
 }

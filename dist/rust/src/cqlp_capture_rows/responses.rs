@@ -1,7 +1,6 @@
 // Written by dist/erase from crates/cqlp_capture_rows/src/responses.rt.
 //! The text of the responses of a connection.
 
-use crate::kit_host::prelude::{AllocGlobal, Clone, ToCopy};
 use crate::cqlp_capture_rows::limits::{EXECUTES, STATEMENTS};
 use crate::cqlp_capture_rows::other_connections::OtherConnections;
 use crate::cqlp_capture_rows::other_types::OtherTypes;
@@ -16,7 +15,7 @@ use crate::cqlp_note::{Header, NoMemory, Opcode, Reason};
 use crate::cqlp_tcp_reassembly::{GapCause, StreamStep};
 use crate::cqlp_text::{Pen, TextWriter};
 use crate::cqlp_type::TypeTable;
-use crate::kit_std::alloc::{AllocError, Allocator, Global};
+use crate::kit_std::alloc::{AllocError};
 
 /// The header before that of the first frame.
 const NO_HEADER: Header = Header {
@@ -28,22 +27,22 @@ const NO_HEADER: Header = Header {
 };
 
 /// What is known of the responses of a connection: of its statements, and of the page of the frame that is read.
-pub(crate) struct Responses<A: Allocator = Global> {
+pub(crate) struct Responses {
     /// The number of the connection.
     number: u64,
-    known: PreparedTypes<A>,
-    others: OtherTypes<A>,
+    known: PreparedTypes,
+    others: OtherTypes,
     /// Where the frame that began last begins, and its header.
     begun: FrameSpot,
     /// What it said of a page.
     page: Page,
 }
 
-impl<A: Allocator + Clone> Responses<A> {
+impl Responses {
     /// Nothing came of the connection with this number. All memory but that of types is taken here.
-    pub(crate) fn new(alloc: A, number: u64) -> Result<Self, AllocError> {
-        let others = OtherTypes::new(alloc.to_copy()?)?;
-        match PreparedTypes::new(alloc, STATEMENTS, EXECUTES) {
+    pub(crate) fn new(number: u64) -> Result<Self, AllocError> {
+        let others = OtherTypes::new()?;
+        match PreparedTypes::new(STATEMENTS, EXECUTES) {
             Ok(known) => Ok(Responses {
                 number,
                 known,
@@ -59,7 +58,7 @@ impl<A: Allocator + Clone> Responses<A> {
     }
 }
 
-impl<A: Allocator> Responses<A> {
+impl Responses {
     /// Takes what the direction of the requests delivers, with its bytes: what is known of statements changes by that.
     pub(crate) fn hear_requests(&mut self, step: StreamStep, bytes: &[u8], requests: &mut Requests) {
         requests.hear(step, bytes, &mut self.known);
@@ -94,20 +93,14 @@ impl<A: Allocator> Responses<A> {
         number: u64,
         step: StreamStep,
         bytes: &[u8],
-        connections: &mut OtherConnections<A>,
-    ) -> Result<(), NoMemory>
-    where
-        A: Clone,
-    {
+        connections: &mut OtherConnections,
+    ) -> Result<(), NoMemory> {
         connections.hear(number, step, bytes, &mut self.others)
     }
 
     /// Says that a response came under this stream id, and copies the types of the statement that the EXECUTE names which waits under it. Memory is
     /// asked for only where there are types.
-    fn types_for(&mut self, stream: i16) -> Result<Option<TypeTable<A>>, NoMemory>
-    where
-        A: Clone,
-    {
+    fn types_for(&mut self, stream: i16) -> Result<Option<TypeTable>, NoMemory> {
         match self.known.answered(stream) {
             Some(id) => {
                 let types = self.copy_of(&id);
@@ -118,10 +111,7 @@ impl<A: Allocator> Responses<A> {
         }
     }
 
-    fn copy_of(&self, id: &StatementId) -> Result<Option<TypeTable<A>>, NoMemory>
-    where
-        A: Clone,
-    {
+    fn copy_of(&self, id: &StatementId) -> Result<Option<TypeTable>, NoMemory> {
         match self.types_of(id) {
             Some(types) => Ok(Some(types.clone_table()?)),
             None => Ok(None),
@@ -129,7 +119,7 @@ impl<A: Allocator> Responses<A> {
     }
 
     /// The types of a statement, by its own connection first.
-    fn types_of(&self, id: &StatementId) -> Option<&TypeTable<A>> {
+    fn types_of(&self, id: &StatementId) -> Option<&TypeTable> {
         match self.known.types_of(id) {
             Some(types) => Some(types),
             None => self.others.types_of(id),
@@ -138,10 +128,7 @@ impl<A: Allocator> Responses<A> {
 
     /// The frame came whole. A PREPARED says the types of its statement's result: it is the RESULT that names a statement. Memory is asked for
     /// only then.
-    fn learn(&mut self, types: &TypeTable<A>) -> Result<(), NoMemory>
-    where
-        A: Clone,
-    {
+    fn learn(&mut self, types: &TypeTable) -> Result<(), NoMemory> {
         if !is_result(&self.begun.header) {
             return Ok(());
         }
@@ -152,7 +139,7 @@ impl<A: Allocator> Responses<A> {
     }
 }
 
-impl<A: Allocator + Clone> Transcript<A> for Responses<A> {
+impl Transcript for Responses {
     type Fault = ReportFault;
 
     fn no_memory() -> ReportFault {
@@ -164,7 +151,7 @@ impl<A: Allocator + Clone> Transcript<A> for Responses<A> {
         at: u64,
         header: &Header,
         _writer: &mut TextWriter<P>,
-    ) -> Result<Option<TypeTable<A>>, ReportFault> {
+    ) -> Result<Option<TypeTable>, ReportFault> {
         let types = self.types_for(header.stream)?;
         self.begun = FrameSpot {
             spot: self.spot(at),
@@ -225,7 +212,7 @@ impl<A: Allocator + Clone> Transcript<A> for Responses<A> {
 
     fn end<P: Pen>(
         &mut self,
-        types: &TypeTable<A>,
+        types: &TypeTable,
         writer: &mut TextWriter<P>,
     ) -> Result<(), ReportFault> {
         self.learn(types)?;

@@ -1,7 +1,7 @@
 // Written by dist/erase from crates/cqlp_capture_rows/src/rows.rt.
 //! What listens to one connection of a capture.
 
-use crate::kit_host::prelude::{AllocGlobal, Clone, ToCopy, Vec, vec};
+use crate::kit_host::prelude::{Vec, vec};
 use crate::cqlp_capture_rows::limits::{LIMITS};
 use crate::cqlp_capture_rows::other_connections::OtherConnections;
 use crate::cqlp_capture_rows::responses::Responses;
@@ -11,7 +11,7 @@ use crate::cqlp_capture_streams::{ConnectionEvent, Listener, StreamsFault};
 use crate::cqlp_note::{NoMemory, Target};
 use crate::cqlp_tcp_connections::{Delivery, Way};
 use crate::cqlp_text::{Buffered, TextWriter};
-use crate::kit_std::alloc::{AllocError, Allocator, Global};
+use crate::kit_std::alloc::{AllocError};
 
 /// How many bytes of text wait at most.
 const ROOM: usize = 65_536;
@@ -23,17 +23,17 @@ const ROOM: usize = 65_536;
 /// that is prepared, and of a page that answers an EXECUTE: one request each, of `LIMITS.entries` nodes. At most [`STATEMENTS`] statements are known,
 /// and the types of one page. Of other connections memory is taken for each as it begins, for the bytes of a PREPARED as they come, for its decoder, and
 /// for the types of its statement.
-pub struct Rows<O: Target, A: Allocator = Global> {
+pub struct Rows<O: Target> {
     /// The number of the connection.
     asked: u64,
     requests: Requests,
-    direction: Direction<A>,
-    responses: Responses<A>,
-    others: OtherConnections<A>,
-    writer: TextWriter<Buffered<O, A>>,
+    direction: Direction,
+    responses: Responses,
+    others: OtherConnections,
+    writer: TextWriter<Buffered<O>>,
 }
 
-impl<O: Target, A: Allocator> Rows<O, A> {
+impl<O: Target> Rows<O> {
     /// The output.
     pub fn into_output(self) -> O {
         let Rows {
@@ -48,11 +48,11 @@ impl<O: Target, A: Allocator> Rows<O, A> {
     }
 }
 
-impl<O: Target, A: Allocator + Clone> Rows<O, A> {
+impl<O: Target> Rows<O> {
     /// Nothing came of the connection with this number, and its pages go to this output. Memory for all but types and frames is taken here; where it
     /// is not granted, the output is given back.
-    pub fn new(alloc: A, asked: u64, out: O) -> Result<Self, O> {
-        match take_memory(alloc, asked) {
+    pub fn new(asked: u64, out: O) -> Result<Self, O> {
+        match take_memory(asked) {
             Ok((direction, responses, others, buffer)) => Ok(Rows {
                 asked,
                 requests: Requests::new(false),
@@ -129,9 +129,9 @@ impl<O: Target, A: Allocator + Clone> Rows<O, A> {
 }
 
 /// Passes on the text that was put, also where memory was refused.
-fn pass_on<W: Target, A: Allocator>(
+fn pass_on<W: Target>(
     put: Result<(), ReportFault>,
-    writer: &mut TextWriter<Buffered<W, A>>,
+    writer: &mut TextWriter<Buffered<W>>,
 ) -> Result<(), ReportFault> {
     match put {
         Ok(()) => Ok(writer.pass_on()?),
@@ -153,18 +153,17 @@ fn answer_of(put: Result<(), ReportFault>) -> Result<(), StreamsFault> {
 }
 
 /// A direction and responses of which nothing came, no other connections, and a buffer.
-fn take_memory<A: Allocator + Clone>(
-    alloc: A,
+fn take_memory(
     asked: u64,
-) -> Result<(Direction<A>, Responses<A>, OtherConnections<A>, Vec<u8, A>), AllocError> {
-    let responses = Responses::new(alloc.to_copy()?, asked)?;
-    let direction = Direction::new(alloc.to_copy()?, LIMITS, true);
-    let others = OtherConnections::new(alloc.to_copy()?)?;
-    let buffer = vec![in alloc; 0; ROOM]?;
+) -> Result<(Direction, Responses, OtherConnections, Vec<u8>), AllocError> {
+    let responses = Responses::new(asked)?;
+    let direction = Direction::new(LIMITS, true);
+    let others = OtherConnections::new()?;
+    let buffer = vec![0; ROOM]?;
     Ok((direction, responses, others, buffer))
 }
 
-impl<O: Target, A: Allocator + Clone> Listener for Rows<O, A> {
+impl<O: Target> Listener for Rows<O> {
     fn hear(&mut self, event: &ConnectionEvent<'_>) -> Result<(), StreamsFault> {
         match event {
             ConnectionEvent::Packet { .. } => Ok(()),

@@ -1,27 +1,27 @@
 // Written by dist/erase from crates/cqlp_capture_streams/src/block_writer.rt.
 //! Bytes on their way to a target in blocks.
 
-use crate::kit_host::prelude::{AllocGlobal, Vec};
+use crate::kit_host::prelude::{KitVec, Vec};
 use crate::cqlp_note::{IoFault, Target, offer};
-use crate::kit_std::alloc::{AllocError, Allocator, Global};
+use crate::kit_std::alloc::{AllocError};
 
 /// How many bytes wait at most.
 const BLOCK: usize = 65_536;
 
 /// A target that passes bytes on to another one in blocks of up to 64 KiB: they wait until the next ones have no room beside them. Longer
 /// ones are passed on as they come.
-pub struct BlockWriter<O: Target, A: Allocator = Global> {
+pub struct BlockWriter<O: Target> {
     target: O,
     /// What waits to be passed on.
-    waiting: Vec<u8, A>,
+    waiting: Vec<u8>,
     /// How many calls took all of their bytes, up to 2^64 - 1.
     writes: u64,
 }
 
-impl<O: Target, A: Allocator> BlockWriter<O, A> {
+impl<O: Target> BlockWriter<O> {
     /// With nothing that waits. Takes memory for a block; where it is not granted, the target is given back.
-    pub fn new(alloc: A, target: O) -> Result<Self, O> {
-        match Vec::with_capacity(alloc, BLOCK) {
+    pub fn new(target: O) -> Result<Self, O> {
+        match Vec::kit_with_capacity(BLOCK) {
             Ok(waiting) => Ok(BlockWriter {
                 target,
                 waiting,
@@ -89,7 +89,7 @@ impl<O: Target, A: Allocator> BlockWriter<O, A> {
     }
 }
 
-impl<O: Target, A: Allocator> Target for BlockWriter<O, A> {
+impl<O: Target> Target for BlockWriter<O> {
     #[inline]
     fn write(&mut self, bytes: &[u8]) -> Result<usize, IoFault> {
         if bytes.len() > BLOCK - self.waiting.len() {
@@ -102,14 +102,14 @@ impl<O: Target, A: Allocator> Target for BlockWriter<O, A> {
 
 /// Adds bytes for which there is room.
 #[inline(always)]
-fn append<A: Allocator>(to: &mut Vec<u8, A>, bytes: &[u8]) {
-    let Ok(()) = to.extend_from_slice(bytes) else {
+fn append(to: &mut Vec<u8>, bytes: &[u8]) {
+    let Ok(()) = to.kit_extend_from_slice(bytes) else {
         unreachable!()
     };
 }
 
 /// Removes the first bytes.
-fn remove_front<A: Allocator>(from: &mut Vec<u8, A>, count: usize) {
+fn remove_front(from: &mut Vec<u8>, count: usize) {
     let len = from.len();
     from.copy_within(count.., 0);
     from.truncate(len - count);

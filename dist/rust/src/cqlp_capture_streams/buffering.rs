@@ -5,7 +5,6 @@ use crate::cqlp_capture_streams::block_writer::BlockWriter;
 use crate::cqlp_capture_streams::capturing::CaptureRead;
 use crate::cqlp_capture_streams::fault::StreamsFault;
 use crate::cqlp_note::{IoFault, Target};
-use crate::kit_std::alloc::Allocator;
 
 /// When the lines of a capture are written.
 #[derive(Clone, Copy)]
@@ -18,9 +17,9 @@ pub enum Buffering {
 
 /// Passes on the last block, after the reading of a capture ended so: not where a write failed. Answers how the reading ended, or that this write
 /// failed, and the target.
-pub fn finish_blocks<O: Target, A: Allocator>(
+pub fn finish_blocks<O: Target>(
     read: Result<CaptureRead, StreamsFault>,
-    blocks: BlockWriter<O, A>,
+    blocks: BlockWriter<O>,
 ) -> (Result<CaptureRead, StreamsFault>, O) {
     if has_failed(&read) {
         return (Err(StreamsFault::Write), blocks.into_inner());

@@ -1,7 +1,7 @@
 // Written by dist/erase from crates/cqlp_capture_streams/src/capturing.rt.
 //! A whole capture.
 
-use crate::kit_host::prelude::{AllocGlobal, vec};
+use crate::kit_host::prelude::{vec};
 use crate::cqlp_capture_streams::fault::StreamsFault;
 use crate::cqlp_capture_streams::input::CaptureInput;
 use crate::cqlp_capture_streams::limits::StreamsLimits;
@@ -12,7 +12,6 @@ use crate::cqlp_capture_streams::splitter::Splitter;
 use crate::cqlp_capture::{CaptureEnd, CaptureLimits, CaptureReader};
 use crate::cqlp_packet_order::{OrderCounts, PacketOrder};
 use crate::cqlp_tcp_connections::{ConnectionCounts, Connections};
-use crate::kit_std::alloc::{Allocator, Global};
 
 /// How many reads are made at most.
 const TURNS: u64 = 4_294_967_296;
@@ -51,22 +50,21 @@ impl CaptureRead {
 ///
 /// After a fault nothing more is read, and the listener gets nothing more.
 pub(crate) fn read_capture<R: CaptureInput, L: Listener>(
-    alloc: Global,
     limits: StreamsLimits,
     ports: &[u16],
     input: &mut R,
     listener: &mut L,
 ) -> Result<CaptureRead, StreamsFault> {
-    let Ok(mut reader) = CaptureReader::new(alloc, CaptureLimits::DEFAULT) else {
+    let Ok(mut reader) = CaptureReader::new(CaptureLimits::DEFAULT) else {
         return Err(StreamsFault::NoMemory);
     };
-    let Ok(connections) = Connections::new(alloc, limits.connections, ports) else {
+    let Ok(connections) = Connections::new(limits.connections, ports) else {
         return Err(StreamsFault::NoMemory);
     };
-    let Ok(order) = PacketOrder::new(alloc, limits.order) else {
+    let Ok(order) = PacketOrder::new(limits.order) else {
         return Err(StreamsFault::NoMemory);
     };
-    let Ok(mut buffer) = vec![in alloc; 0; ROOM] else {
+    let Ok(mut buffer) = vec![0; ROOM] else {
         return Err(StreamsFault::NoMemory);
     };
     let mut splitter = Splitter::new(connections, order);
@@ -82,9 +80,9 @@ pub(crate) fn read_capture<R: CaptureInput, L: Listener>(
 }
 
 /// What a capture was that was split so.
-fn read_of<A: Allocator>(
+fn read_of(
     answer: Result<CaptureEnd, StreamsFault>,
-    splitter: &Splitter<A>,
+    splitter: &Splitter,
 ) -> Result<CaptureRead, StreamsFault> {
     match answer {
         Err(fault) => Err(fault),

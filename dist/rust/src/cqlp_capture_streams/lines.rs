@@ -1,15 +1,15 @@
 // Written by dist/erase from crates/cqlp_capture_streams/src/lines.rt.
 //! The lines of connections.
 
-use crate::kit_host::prelude::{AllocGlobal, String, format};
+use crate::kit_host::prelude::{String, format};
 use crate::cqlp_capture_streams::files::StreamFile;
 use crate::cqlp_grammar::SinkFault;
 use crate::cqlp_note::Target;
 use crate::cqlp_tcp_connections::{Begin, ConnectionTotals, DirectionTotals, End, Way};
 use crate::cqlp_tcp_reassembly::GapCause;
-use crate::cqlp_tcp_segment::{Address, Endpoint};
+use crate::cqlp_tcp_segment::{IpAddress, Endpoint};
 use crate::cqlp_text::{Pen, TextWriter};
-use crate::kit_std::alloc::{AllocError, Allocator};
+use crate::kit_std::alloc::{AllocError};
 use crate::kit_host::net::{Ipv4Addr, Ipv6Addr};
 
 /// The name of a way, as it is in names of files.
@@ -97,61 +97,58 @@ fn put_file<P: Pen>(
 }
 
 /// Makes the lines of connections in memory, and has it for nothing else.
-pub(crate) struct ConnectionLines<A: Allocator> {
-    alloc: A,
-}
+pub(crate) struct ConnectionLines {}
 
-impl<A: Allocator> ConnectionLines<A> {
+impl ConnectionLines {
     /// In this memory.
-    pub(crate) fn new(alloc: A) -> Self {
-        ConnectionLines { alloc }
+    pub(crate) fn new() -> Self {
+        ConnectionLines {}
     }
 }
 
-impl<A: Allocator> ConnectionLines<A> {
+impl ConnectionLines {
     /// The line of a connection that has left.
-    pub(crate) fn line(&self, totals: &ConnectionTotals) -> Result<String<&A>, AllocError> {
-        connection_line(&self.alloc, totals)
+    pub(crate) fn line(&self, totals: &ConnectionTotals) -> Result<String, AllocError> {
+        connection_line(totals)
     }
 }
 
 /// The line of a connection that has left.
-fn connection_line<'a, A: Allocator>(
-    alloc: &'a A,
+fn connection_line<'a>(
     totals: &ConnectionTotals,
-) -> Result<String<&'a A>, AllocError> {
+) -> Result<String, AllocError> {
     let number = totals.number;
-    let client = end_text(alloc, &totals.client)?;
-    let node = end_text(alloc, &totals.node)?;
-    let requests = direction_text(alloc, &totals.requests)?;
-    let responses = direction_text(alloc, &totals.responses)?;
-    format!(in alloc;
+    let client = end_text(&totals.client)?;
+    let node = end_text(&totals.node)?;
+    let requests = direction_text(&totals.requests)?;
+    let responses = direction_text(&totals.responses)?;
+    format!(
         "connection {number} {client} {node} requests {requests} responses {responses}\n"
     )
 }
 
 /// An end of a connection, as a socket's address is written.
-fn end_text<A: Allocator>(alloc: A, end: &Endpoint) -> Result<String<A>, AllocError> {
+fn end_text(end: &Endpoint) -> Result<String, AllocError> {
     let port = end.port;
     match end.address {
-        Address::V4(octets) => {
+        IpAddress::V4(octets) => {
             let ip = Ipv4Addr::from(octets);
-            format!(in alloc; "{ip}:{port}")
+            format!("{ip}:{port}")
         }
-        Address::V6(octets) => {
+        IpAddress::V6(octets) => {
             let ip = Ipv6Addr::from(octets);
-            format!(in alloc; "[{ip}]:{port}")
+            format!("[{ip}]:{port}")
         }
     }
 }
 
 /// What a direction delivered: its bytes, its gaps, and whether its begin and its end were seen.
-fn direction_text<A: Allocator>(alloc: A, totals: &DirectionTotals) -> Result<String<A>, AllocError> {
+fn direction_text(totals: &DirectionTotals) -> Result<String, AllocError> {
     let bytes = totals.bytes;
     let gaps = totals.gaps.saturating_add(totals.snapped);
     let begin = begin_name(totals.begin);
     let end = end_name(totals.end);
-    format!(in alloc; "{bytes} gaps {gaps} {begin} {end}")
+    format!("{bytes} gaps {gaps} {begin} {end}")
 }
 
 fn begin_name(begin: Begin) -> &'static str {

@@ -1,7 +1,6 @@
 // Written by dist/erase from crates/cqlp_capture_streams/src/recorder.rt.
 //! The events of connections, on their way to files and to lines.
 
-use crate::kit_host::prelude::{AllocGlobal};
 use crate::cqlp_capture_streams::connection_event::ConnectionEvent;
 use crate::cqlp_capture_streams::fault::StreamsFault;
 use crate::cqlp_capture_streams::files::{StreamFile, StreamFiles};
@@ -13,7 +12,7 @@ use crate::cqlp_note::Target;
 use crate::cqlp_tcp_connections::{ConnectionTotals, Delivery, DirectionTotals};
 use crate::cqlp_tcp_reassembly::{GapCause, StreamStep};
 use crate::cqlp_text::{Pen, TextWriter, put_text};
-use crate::kit_std::alloc::{AllocError, Allocator};
+use crate::kit_std::alloc::{AllocError};
 
 /// What the connections delivered that have left. A number stays at 2^64 - 1 once it is there.
 #[derive(Clone, Copy)]
@@ -24,8 +23,8 @@ pub(crate) struct Sums {
 }
 
 /// Has files keep the bytes of connections, and writes a line for each gap and for each connection that has left.
-pub(crate) struct Recorder<F: StreamFiles, O: Target, A: Allocator> {
-    lines: ConnectionLines<A>,
+pub(crate) struct Recorder<F: StreamFiles, O: Target> {
+    lines: ConnectionLines,
     files: F,
     out: O,
     sums: Sums,
@@ -63,11 +62,11 @@ impl LastWords for Sums {
     }
 }
 
-impl<F: StreamFiles, O: Target, A: Allocator> Recorder<F, O, A> {
+impl<F: StreamFiles, O: Target> Recorder<F, O> {
     /// Over files and an output, with nothing recorded.
-    pub fn new(alloc: A, files: F, out: O) -> Self {
+    pub fn new(files: F, out: O) -> Self {
         Recorder {
-            lines: ConnectionLines::new(alloc),
+            lines: ConnectionLines::new(),
             files,
             out,
             sums: Sums { gaps: 0, bytes: 0 },
@@ -86,7 +85,7 @@ impl<F: StreamFiles, O: Target, A: Allocator> Recorder<F, O, A> {
     }
 }
 
-impl<F: StreamFiles, O: Target, A: Allocator> Recorder<F, O, A> {
+impl<F: StreamFiles, O: Target> Recorder<F, O> {
     /// Takes an event: a new connection's files are made, bytes are appended to the file of their direction, a gap is a line,
     /// and the files of a connection that has left are kept, and then its line is written.
     fn record(&mut self, event: &ConnectionEvent<'_>) -> Result<(), StreamsFault> {
@@ -148,7 +147,7 @@ impl<F: StreamFiles, O: Target, A: Allocator> Recorder<F, O, A> {
     }
 }
 
-impl<F: StreamFiles, O: Target, A: Allocator> Listener for Recorder<F, O, A> {
+impl<F: StreamFiles, O: Target> Listener for Recorder<F, O> {
     fn hear(&mut self, event: &ConnectionEvent<'_>) -> Result<(), StreamsFault> {
         self.record(event)
     }

@@ -1,20 +1,19 @@
 // Written by dist/erase from crates/cqlp_capture_streams/src/reporting.rt.
 //! The events of a table of connections, on their way to a listener.
 
-use crate::kit_host::prelude::{Clone};
 use crate::cqlp_capture_streams::connection_event::ConnectionEvent;
 use crate::cqlp_capture_streams::fault::StreamsFault;
 use crate::cqlp_capture_streams::listener::Listener;
 use crate::cqlp_tcp_connections::{Admission, Connections, Delivery, Departure};
 use crate::cqlp_tcp_reassembly::StreamStep;
 use crate::cqlp_tcp_segment::Segment;
-use crate::kit_std::alloc::{AllocError, Allocator};
+use crate::kit_std::alloc::{AllocError};
 
 /// Has the connection of a segment take it, where need be after another one has left, and reports what that delivers.
 #[inline]
-pub(crate) fn take_segment<L: Listener, A: Allocator + Clone>(
+pub(crate) fn take_segment<L: Listener>(
     time: Option<u64>,
-    connections: &mut Connections<A>,
+    connections: &mut Connections,
     segment: &Segment<'_>,
     listener: &mut L,
 ) -> Result<(), StreamsFault> {
@@ -34,9 +33,9 @@ pub(crate) fn take_segment<L: Listener, A: Allocator + Clone>(
 
 /// Has the connection of a segment take it after another one has left for it. For one segment one connection leaves at most.
 #[cold]
-fn take_again<L: Listener, A: Allocator + Clone>(
+fn take_again<L: Listener>(
     time: Option<u64>,
-    connections: &mut Connections<A>,
+    connections: &mut Connections,
     segment: &Segment<'_>,
     listener: &mut L,
 ) -> Result<(), StreamsFault> {
@@ -61,9 +60,9 @@ fn begin<L: Listener>(is_new: bool, number: u64, listener: &mut L) -> Result<(),
 }
 
 /// Reports all that a segment delivers which was taken. One without payload, as an acknowledgement, mostly delivers nothing.
-fn pull_all<L: Listener, A: Allocator + Clone>(
+fn pull_all<L: Listener>(
     time: Option<u64>,
-    connections: &mut Connections<A>,
+    connections: &mut Connections,
     segment: &Segment<'_>,
     listener: &mut L,
 ) -> Result<(), StreamsFault> {
@@ -87,8 +86,8 @@ fn pull_all<L: Listener, A: Allocator + Clone>(
 }
 
 /// Has the connection leave that has to.
-fn leave<L: Listener, A: Allocator>(
-    connections: &mut Connections<A>,
+fn leave<L: Listener>(
+    connections: &mut Connections,
     listener: &mut L,
 ) -> Result<(), StreamsFault> {
     for turn in 0..u64::MAX {
@@ -102,8 +101,8 @@ fn leave<L: Listener, A: Allocator>(
 }
 
 /// Has all connections leave.
-pub(crate) fn finish_all<L: Listener, A: Allocator>(
-    connections: &mut Connections<A>,
+pub(crate) fn finish_all<L: Listener>(
+    connections: &mut Connections,
     listener: &mut L,
 ) -> Result<(), StreamsFault> {
     for turn in 0..u64::MAX {
@@ -116,8 +115,8 @@ pub(crate) fn finish_all<L: Listener, A: Allocator>(
 }
 
 /// Reports the next event of the connection that leaves first. Says whether there was none.
-fn finish_one<L: Listener, A: Allocator>(
-    connections: &mut Connections<A>,
+fn finish_one<L: Listener>(
+    connections: &mut Connections,
     listener: &mut L,
 ) -> Result<bool, StreamsFault> {
     match connections.finish() {
@@ -134,8 +133,8 @@ fn finish_one<L: Listener, A: Allocator>(
 }
 
 /// Reports what a segment delivers, with its bytes: those of the payload that are named, or those that the connection held.
-fn report<L: Listener, A: Allocator>(
-    connections: &mut Connections<A>,
+fn report<L: Listener>(
+    connections: &mut Connections,
     delivered: Delivery,
     payload: &[u8],
     listener: &mut L,
@@ -159,8 +158,8 @@ fn report<L: Listener, A: Allocator>(
 }
 
 /// Reports what a connection delivers without a segment: of bytes those that the connection held.
-fn report_last<L: Listener, A: Allocator>(
-    connections: &mut Connections<A>,
+fn report_last<L: Listener>(
+    connections: &mut Connections,
     delivered: Delivery,
     listener: &mut L,
 ) -> Result<(), StreamsFault> {
@@ -183,8 +182,8 @@ fn report_last<L: Listener, A: Allocator>(
 }
 
 /// Reports the next bytes that the connection held.
-fn report_held<L: Listener, A: Allocator>(
-    connections: &mut Connections<A>,
+fn report_held<L: Listener>(
+    connections: &mut Connections,
     delivered: Delivery,
     listener: &mut L,
 ) -> Result<(), StreamsFault> {

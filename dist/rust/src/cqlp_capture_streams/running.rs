@@ -1,14 +1,12 @@
 // Written by dist/erase from crates/cqlp_capture_streams/src/running.rt.
 //! A reader's capture, split into the streams of its connections.
 
-use crate::kit_host::prelude::{Clone};
 use crate::cqlp_capture_streams::fault::StreamsFault;
 use crate::cqlp_capture_streams::input::CaptureInput;
 use crate::cqlp_capture_streams::listener::Listener;
 use crate::cqlp_capture_streams::splitter::Splitter;
 use crate::cqlp_capture::{CaptureEnd, CaptureReader, CaptureStep};
 use crate::cqlp_note::IoFault;
-use crate::kit_std::alloc::Allocator;
 
 /// How the events of a piece end.
 #[derive(Clone, Copy)]
@@ -20,9 +18,9 @@ enum Drained {
 /// Reports all events of a reader's capture, of one file or of several, from at most `turns` reads into the buffer, none of which is tried again.
 /// No read is made before the listener has got all events of the bytes read so far. At the end of the file, or where it is refused, all
 /// connections leave.
-pub(crate) fn split<R: CaptureInput, L: Listener, A: Allocator, B: Allocator + Clone>(
-    reader: &mut CaptureReader<A>,
-    splitter: &mut Splitter<B>,
+pub(crate) fn split<R: CaptureInput, L: Listener>(
+    reader: &mut CaptureReader,
+    splitter: &mut Splitter,
     input: &mut R,
     buffer: &mut [u8],
     listener: &mut L,
@@ -50,9 +48,9 @@ pub(crate) fn split<R: CaptureInput, L: Listener, A: Allocator, B: Allocator + C
 }
 
 /// Begins the next file, if there is one; a file that ends within a packet or a block is counted as cut.
-fn begin_next<R: CaptureInput, A: Allocator, B: Allocator>(
-    reader: &mut CaptureReader<A>,
-    splitter: &mut Splitter<B>,
+fn begin_next<R: CaptureInput>(
+    reader: &mut CaptureReader,
+    splitter: &mut Splitter,
     input: &mut R,
 ) -> Result<bool, StreamsFault> {
     match input.next_file() {
@@ -72,9 +70,9 @@ fn is_cut(end: &CaptureEnd) -> bool {
 }
 
 /// Reports what the events of a piece hold.
-fn drain<L: Listener, A: Allocator, B: Allocator + Clone>(
-    reader: &mut CaptureReader<A>,
-    splitter: &mut Splitter<B>,
+fn drain<L: Listener>(
+    reader: &mut CaptureReader,
+    splitter: &mut Splitter,
     piece: &[u8],
     listener: &mut L,
 ) -> Result<Drained, StreamsFault> {
@@ -97,9 +95,9 @@ fn drain<L: Listener, A: Allocator, B: Allocator + Clone>(
 }
 
 /// At the end of the file, or where it is refused: has all connections leave. Says how the file ends.
-fn end_all<L: Listener, A: Allocator, B: Allocator + Clone>(
-    reader: &CaptureReader<A>,
-    splitter: &mut Splitter<B>,
+fn end_all<L: Listener>(
+    reader: &CaptureReader,
+    splitter: &mut Splitter,
     listener: &mut L,
 ) -> Result<CaptureEnd, StreamsFault> {
     let end = reader.finish();

@@ -1,7 +1,7 @@
 // Written by dist/erase from crates/cqlp_capture_streams/src/splitter.rt.
 //! The packets of a capture, on their way to connections.
 
-use crate::kit_host::prelude::{Clone};
+use crate::kit_host::prelude::{KitVec};
 use crate::cqlp_capture_streams::connection_event::ConnectionEvent;
 use crate::cqlp_capture_streams::fault::StreamsFault;
 use crate::cqlp_capture_streams::listener::Listener;
@@ -11,12 +11,12 @@ use crate::cqlp_capture::{CaptureEvent, PacketHead};
 use crate::cqlp_packet_order::{KeptPacket, OrderCounts, Packet, PacketOrder};
 use crate::cqlp_tcp_connections::{ConnectionCounts, Connections};
 use crate::cqlp_tcp_segment::{LinkType, NoSegment, Segment, read_segment};
-use crate::kit_std::alloc::{AllocError, Allocator, Global};
+use crate::kit_std::alloc::{AllocError};
 
 /// Takes the events of a capture, puts its packets in order, and has the segments in them taken by their connections.
-pub(crate) struct Splitter<A: Allocator = Global> {
-    connections: Connections<A>,
-    order: PacketOrder<A>,
+pub(crate) struct Splitter {
+    connections: Connections,
+    order: PacketOrder,
     /// Of the packet that began: the link type's number, when it was captured, and how many bytes it had.
     link: u16,
     time: Option<u64>,
@@ -24,9 +24,9 @@ pub(crate) struct Splitter<A: Allocator = Global> {
     counts: PacketCounts,
 }
 
-impl<A: Allocator> Splitter<A> {
+impl Splitter {
     /// At the start of a capture, whose connections have this table, and whose packets this window.
-    pub fn new(connections: Connections<A>, order: PacketOrder<A>) -> Self {
+    pub fn new(connections: Connections, order: PacketOrder) -> Self {
         Splitter {
             connections,
             order,
@@ -74,7 +74,7 @@ impl<A: Allocator> Splitter<A> {
     }
 }
 
-impl<A: Allocator + Clone> Splitter<A> {
+impl Splitter {
     /// Takes the next event, and reports what it means for connections. A packet whose bytes are here waits for those that were captured before
     /// it, unless it passes as it is.
     #[inline]
@@ -99,7 +99,7 @@ impl<A: Allocator + Clone> Splitter<A> {
                 if self.order.pass(&packet) {
                     return self.take_packet(&packet, listener);
                 }
-                match self.order.push(&packet) {
+                match self.order.kit_push(&packet) {
                     Ok(()) => self.hand_on_due(listener),
                     Err(AllocError) => Err(StreamsFault::NoMemory),
                 }
@@ -136,7 +136,7 @@ impl<A: Allocator + Clone> Splitter<A> {
     /// Takes a packet that has left the window, and gives its memory back.
     fn take_kept<L: Listener>(
         &mut self,
-        kept: KeptPacket<A>,
+        kept: KeptPacket,
         listener: &mut L,
     ) -> Result<(), StreamsFault> {
         let answer = self.take_packet(&kept.as_packet(), listener);

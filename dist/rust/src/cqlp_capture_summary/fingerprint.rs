@@ -1,6 +1,7 @@
 // Written by dist/erase from crates/cqlp_capture_summary/src/fingerprint.rt.
 //! What statements have in common that differ in their literals alone.
 
+use crate::kit_host::prelude::{KitVec};
 use crate::cqlp_capture_summary::class::{Class, class_of, hex_with, is_hex, is_number, is_uuid, is_word};
 use crate::cqlp_capture_summary::mode::Mode;
 use crate::cqlp_capture_summary::written::Written;
@@ -94,21 +95,21 @@ fn write_at(written: &mut Written, class: Class, byte: u8) {
             written.drop_sign();
             written.literal();
         }
-        Class::Letter => written.push(byte),
+        Class::Letter => written.kit_push(byte),
         Class::Quote => written.literal(),
-        Class::DoubleQuote => written.push(byte),
+        Class::DoubleQuote => written.kit_push(byte),
         Class::QuestionMark => written.literal(),
         Class::Dash => written.push_or_space(b'-', byte),
         Class::Slash => written.push_or_space(b'/', byte),
         Class::Star => written.push_or_space(b'/', byte),
         Class::Dollar => written.push_or_literal(byte),
-        Class::Other => written.push(byte),
+        Class::Other => written.kit_push(byte),
     }
 }
 
 fn in_word(written: &mut Written, byte: u8, count: u8) -> Mode {
     if is_word(byte) {
-        written.push(byte);
+        written.kit_push(byte);
         return Mode::Word(hex_with(byte, count));
     }
     if is_uuid(byte, count) {
@@ -167,7 +168,7 @@ fn behind_text(written: &mut Written, byte: u8) -> Mode {
 }
 
 fn in_name(written: &mut Written, byte: u8) -> Mode {
-    written.push(byte);
+    written.kit_push(byte);
     if byte == b'"' {
         Mode::Between
     } else {

@@ -1,7 +1,7 @@
 // Written by dist/erase from crates/cqlp_capture_summary/src/summary.rt.
 //! The statements of a capture.
 
-use crate::kit_host::prelude::{AllocGlobal, Clone, ToCopy, Vec};
+use crate::kit_host::prelude::{KitVec, Vec};
 use crate::cqlp_capture_summary::histogram::put_histogram;
 use crate::cqlp_capture_summary::intervals::{add_in_interval, is_over, put_interval};
 use crate::cqlp_capture_summary::lines::put_summary;
@@ -13,25 +13,25 @@ use crate::cqlp_capture_summary::tally::{Figures, Tally, time_of};
 use crate::cqlp_capture_summary::weights::{add_weight_at, lightest, raise_weight_at};
 use crate::cqlp_grammar::SinkFault;
 use crate::cqlp_text::{Pen, TextWriter};
-use crate::kit_std::alloc::{AllocError, Allocator, Global};
+use crate::kit_std::alloc::{AllocError};
 
 /// How often the statements of a capture were asked for, and how long they took: the heaviest statements in a table of bounded size, and the others together.
 /// A statement that took more than one in N of the whole time is in a table of N places. All memory is taken in `new`: for each place 15,760 bytes, and
 /// 167,024 besides, or 23,664 where there are no places; 4.2 MB for 256 places.
-pub struct Summary<A: Allocator = Global> {
+pub struct Summary {
     statements: usize,
     /// The statements at the places that are taken.
-    names: Vec<Name, A>,
+    names: Vec<Name>,
     /// The most nanoseconds that each of these may have taken.
-    weights: Vec<u64, A>,
+    weights: Vec<u64>,
     /// One for each place.
-    tallies: Vec<Tally, A>,
+    tallies: Vec<Tally>,
     /// One, of all other statements.
-    others: Vec<Tally, A>,
+    others: Vec<Tally>,
     /// By the hash of a name, where it was seen last. A name that is not there is sought at each place.
-    slots: Vec<usize, A>,
+    slots: Vec<usize>,
     /// By the hash of a name, the one that came last, with its fingerprint; none where there are no places.
-    recent: Vec<Recent, A>,
+    recent: Vec<Recent>,
 }
 
 /// How many slots there are.
@@ -40,20 +40,17 @@ const SLOTS: usize = 1024;
 /// How many names are kept with their fingerprints.
 const RECENT: usize = 256;
 
-impl<A: Allocator> Summary<A> {
+impl Summary {
     /// Nothing is noted. At most so many statements have places. All memory is taken here, in six requests, or in two where there are no places.
-    pub fn new(alloc: A, statements: usize) -> Result<Self, AllocError>
-    where
-        A: Clone,
-    {
+    pub fn new(statements: usize) -> Result<Self, AllocError> {
         Ok(Summary {
             statements,
-            names: Vec::with_capacity(alloc.to_copy()?, statements)?,
-            weights: Vec::with_capacity(alloc.to_copy()?, statements)?,
-            tallies: make_tallies(alloc.to_copy()?, statements)?,
-            others: make_tallies(alloc.to_copy()?, 1)?,
-            slots: make_slots(alloc.to_copy()?)?,
-            recent: make_recent(alloc, if statements == 0 { 0 } else { RECENT })?,
+            names: Vec::kit_with_capacity(statements)?,
+            weights: Vec::kit_with_capacity(statements)?,
+            tallies: make_tallies(statements)?,
+            others: make_tallies(1)?,
+            slots: make_slots()?,
+            recent: make_recent(if statements == 0 { 0 } else { RECENT })?,
         })
     }
 
@@ -133,7 +130,7 @@ impl<A: Allocator> Summary<A> {
     fn take_in(&mut self, name: Name) -> Option<usize> {
         let place = self.names.len();
         if place < self.statements {
-            self.push(name);
+            self.kit_push(name);
             return Some(place);
         }
         let at = lightest(&self.weights)?;
@@ -142,7 +139,7 @@ impl<A: Allocator> Summary<A> {
     }
 
     /// Takes a statement in at a free place.
-    fn push(&mut self, name: Name) {
+    fn kit_push(&mut self, name: Name) {
         self.names.push_reserved(name);
         self.weights.push_reserved(0);
     }
@@ -294,24 +291,24 @@ fn position_of(names: &[Name], name: &Name) -> Option<usize> {
     names.iter().position(|known| known.is(name))
 }
 
-fn make_slots<A: Allocator>(alloc: A) -> Result<Vec<usize, A>, AllocError> {
-    let mut slots = Vec::with_capacity(alloc, SLOTS)?;
+fn make_slots() -> Result<Vec<usize>, AllocError> {
+    let mut slots = Vec::kit_with_capacity(SLOTS)?;
     for _ in 0..SLOTS {
         slots.push_reserved(0);
     }
     Ok(slots)
 }
 
-fn make_recent<A: Allocator>(alloc: A, count: usize) -> Result<Vec<Recent, A>, AllocError> {
-    let mut recent = Vec::with_capacity(alloc, count)?;
+fn make_recent(count: usize) -> Result<Vec<Recent>, AllocError> {
+    let mut recent = Vec::kit_with_capacity(count)?;
     for _ in 0..count {
         recent.push_reserved(Recent::new(Name::new(b"", true)));
     }
     Ok(recent)
 }
 
-fn make_tallies<A: Allocator>(alloc: A, count: usize) -> Result<Vec<Tally, A>, AllocError> {
-    let mut tallies = Vec::with_capacity(alloc, count)?;
+fn make_tallies(count: usize) -> Result<Vec<Tally>, AllocError> {
+    let mut tallies = Vec::kit_with_capacity(count)?;
     for _ in 0..count {
         tallies.push_reserved(Tally::new());
     }

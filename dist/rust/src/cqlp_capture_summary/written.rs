@@ -1,6 +1,7 @@
 // Written by dist/erase from crates/cqlp_capture_summary/src/written.rt.
 //! What is written of a fingerprint so far.
 
+use crate::kit_host::prelude::{KitVec};
 use crate::cqlp_capture_summary::class::is_opening;
 
 /// The greatest number of bytes of a fingerprint.
@@ -32,7 +33,7 @@ impl Written {
     }
 
     /// Writes a byte, if there is room for it.
-    pub(crate) fn push(&mut self, byte: u8) {
+    pub(crate) fn kit_push(&mut self, byte: u8) {
         if self.len < MOST {
             self.bytes[self.len] = byte;
             self.len += 1;
@@ -59,7 +60,7 @@ impl Written {
     pub(crate) fn space(&mut self) {
         let last = self.back(1);
         if last != b' ' && last != 0 {
-            self.push(b' ');
+            self.kit_push(b' ');
         }
     }
 
@@ -98,7 +99,7 @@ impl Written {
         if self.back(before) == b'?' || self.is_list_at(before) {
             self.join(self.back(self.separator_at()));
         } else {
-            self.push(b'?');
+            self.kit_push(b'?');
         }
     }
 
@@ -109,7 +110,7 @@ impl Written {
         } else if separator == b':' {
             self.cut(self.before_separator() - 1);
         } else {
-            self.push(b'?');
+            self.kit_push(b'?');
         }
     }
 
@@ -119,7 +120,7 @@ impl Written {
         let is_list = self.is_list_at(before);
         self.cut(before - 1);
         if !is_list {
-            self.push(b'+');
+            self.kit_push(b'+');
         }
     }
 
@@ -142,7 +143,7 @@ impl Written {
             self.cut(1);
             self.literal();
         } else {
-            self.push(byte);
+            self.kit_push(byte);
         }
     }
 
@@ -152,7 +153,7 @@ impl Written {
             self.cut(1);
             self.space();
         } else {
-            self.push(byte);
+            self.kit_push(byte);
         }
     }
 }

@@ -6,7 +6,6 @@ use crate::cqlp_cell::item::CellItem;
 use crate::cqlp_kind::Kind;
 use crate::cqlp_kind::content::make_scalar;
 use crate::cqlp_note::{FieldOutline, Partial, Refusal};
-use crate::kit_std::alloc::Allocator;
 
 /// A part of a cell, or where its content lies.
 #[derive(Clone, Copy)]
@@ -81,7 +80,7 @@ impl CellAdvance {
 impl CellOutline {
     /// The part, with its content lent from where it lies.
     #[inline]
-    pub(crate) fn lend<'a, A: Allocator>(self, partial: &'a Partial<A>, input: &'a [u8]) -> CellItem<'a> {
+    pub(crate) fn lend<'a>(self, partial: &'a Partial, input: &'a [u8]) -> CellItem<'a> {
         match self {
             CellOutline::Leaf {
                 level,

@@ -2,7 +2,6 @@
 //! Contents out of pieces.
 
 use crate::cqlp_note::{ContentForm, ContentPlace, FieldAdvance, FieldOutline, Notation, Partial, Prim};
-use crate::kit_std::alloc::Allocator;
 
 /// A content that is whole after this many bytes of the input.
 #[derive(Clone, Copy)]
@@ -14,8 +13,8 @@ pub(crate) struct Found {
 /// Takes the next bytes of a content of `len` bytes from `start` in the input on. It begins here, at offset `at` in the
 /// stream, or was begun before. A content that lies whole in the input is not copied.
 #[inline]
-pub(crate) fn gather<A: Allocator>(
-    partial: &mut Partial<A>,
+pub(crate) fn gather(
+    partial: &mut Partial,
     begun: bool,
     len: u32,
     at: u64,
@@ -43,7 +42,8 @@ pub(crate) fn gather<A: Allocator>(
 }
 
 /// Takes the next bytes of a content that was begun before.
-fn resume<A: Allocator>(partial: &mut Partial<A>, len: u32, input: &[u8]) -> Option<Found> {
+#[cfg_attr(not(feature = "cli"), inline)]
+fn resume(partial: &mut Partial, len: u32, input: &[u8]) -> Option<Found> {
     match partial.advance(input) {
         FieldAdvance::More { .. } => None,
         FieldAdvance::Got { used, item } => Some(Found {
@@ -55,7 +55,8 @@ fn resume<A: Allocator>(partial: &mut Partial<A>, len: u32, input: &[u8]) -> Opt
 }
 
 /// Begins a content that goes on after the input.
-fn begin<A: Allocator>(partial: &mut Partial<A>, len: u32, at: u64, input: &[u8]) {
+#[cfg_attr(not(feature = "cli"), inline)]
+fn begin(partial: &mut Partial, len: u32, at: u64, input: &[u8]) {
     partial.begin(Notation::Content(len), len, at, at + u64::from(len));
     match partial.advance(input) {
         FieldAdvance::More { .. } => {}
@@ -66,14 +67,15 @@ fn begin<A: Allocator>(partial: &mut Partial<A>, len: u32, at: u64, input: &[u8]
 
 /// Empties the buffer.
 #[inline]
-pub(crate) fn empty<A: Allocator>(partial: &mut Partial<A>) {
+pub(crate) fn empty(partial: &mut Partial) {
     if partial.held() > 0 {
         clear(partial);
     }
 }
 
 /// Empties the buffer by a content without bytes.
-fn clear<A: Allocator>(partial: &mut Partial<A>) {
+#[cfg_attr(not(feature = "cli"), inline)]
+fn clear(partial: &mut Partial) {
     partial.begin(Notation::Content(0), 0, 0, 0);
     match partial.advance(&[]) {
         FieldAdvance::More { .. } => unreachable!(),
@@ -84,8 +86,8 @@ fn clear<A: Allocator>(partial: &mut Partial<A>) {
 
 /// The bytes that lie there.
 #[inline]
-pub(crate) fn lend_bytes<'a, A: Allocator>(
-    partial: &'a Partial<A>,
+pub(crate) fn lend_bytes<'a>(
+    partial: &'a Partial,
     input: &'a [u8],
     content: FieldOutline,
 ) -> &'a [u8] {

@@ -5,7 +5,6 @@ use crate::cqlp_cell::open_values::{OpenValue, Order};
 use crate::cqlp_cell::whole::{BareItem, BarePart, DueItem};
 use crate::cqlp_kind::Kind;
 use crate::cqlp_type::TypeTable;
-use crate::kit_std::alloc::Allocator;
 
 /// A copy of the innermost value that is open, and of where the reading is in it. A loop over its items changes this in
 /// place of the reader, which `CellReader::set_level` then brings to where the loop is.
@@ -28,7 +27,7 @@ pub struct PairKinds {
 impl Level {
     /// The next item, if there is one.
     #[inline(always)]
-    pub(crate) fn due_item<A: Allocator>(&self, table: &TypeTable<A>) -> Option<DueItem> {
+    pub(crate) fn due_item(&self, table: &TypeTable) -> Option<DueItem> {
         let value = self.value;
         if value.is_over(self.offset) {
             return None;
@@ -85,14 +84,15 @@ impl Level {
 
     /// Goes on after the next item, which takes this many bytes.
     #[inline(always)]
-    pub(crate) fn pass<A: Allocator>(&mut self, used: usize, table: &TypeTable<A>) {
+    pub(crate) fn pass(&mut self, used: usize, table: &TypeTable) {
         self.value.pass_item(table);
         self.offset += used as u64;
     }
 
     /// The kinds of the keys and of the values of a map whose key is next; `None` of another value.
     #[inline(always)]
-    pub fn pair_kinds<A: Allocator>(&self, table: &TypeTable<A>) -> Option<PairKinds> {
+    #[must_use]
+    pub fn pair_kinds(&self, table: &TypeTable) -> Option<PairKinds> {
         let Order::Keys = self.value.order else {
             return None;
         };

@@ -2,7 +2,6 @@
 //! Lengths and counts out of pieces.
 
 use crate::cqlp_note::{FieldAdvance, FieldOutline, Notation, Partial, Prim};
-use crate::kit_std::alloc::Allocator;
 
 /// What a piece of input makes of an \[int\].
 #[derive(Clone, Copy)]
@@ -18,8 +17,8 @@ pub(crate) enum Number {
 /// Takes the next bytes of an \[int\] from `start` in the input on. It begins here, at offset `at` in a container that
 /// ends at `end`, or was begun before.
 #[inline]
-pub(crate) fn take_number<A: Allocator>(
-    partial: &mut Partial<A>,
+pub(crate) fn take_number(
+    partial: &mut Partial,
     begun: bool,
     at: u64,
     end: u64,
@@ -42,7 +41,8 @@ pub(crate) fn take_number<A: Allocator>(
 }
 
 /// Takes the next bytes of an \[int\] that was begun before.
-fn resume<A: Allocator>(partial: &mut Partial<A>, input: &[u8]) -> Number {
+#[cfg_attr(not(feature = "cli"), inline)]
+fn resume(partial: &mut Partial, input: &[u8]) -> Number {
     match partial.advance(input) {
         FieldAdvance::More { .. } => Number::More,
         FieldAdvance::Got { used, item } => Number::Got {
@@ -54,7 +54,8 @@ fn resume<A: Allocator>(partial: &mut Partial<A>, input: &[u8]) -> Number {
 }
 
 /// Begins an \[int\] that goes on after the input.
-fn begin<A: Allocator>(partial: &mut Partial<A>, at: u64, end: u64, input: &[u8]) {
+#[cfg_attr(not(feature = "cli"), inline)]
+fn begin(partial: &mut Partial, at: u64, end: u64, input: &[u8]) {
     partial.begin(Notation::Int, 0, at, end);
     match partial.advance(input) {
         FieldAdvance::More { .. } => {}
@@ -64,7 +65,8 @@ fn begin<A: Allocator>(partial: &mut Partial<A>, at: u64, end: u64, input: &[u8]
 }
 
 /// The unsigned number that the bytes of an \[int\] are.
-fn number_in<A: Allocator>(partial: &Partial<A>, input: &[u8], item: FieldOutline) -> u32 {
+#[cfg_attr(not(feature = "cli"), inline)]
+fn number_in(partial: &Partial, input: &[u8], item: FieldOutline) -> u32 {
     match partial.lend(input, item) {
         Prim::Int(number) => number.cast_unsigned(),
         _ => unreachable!(),

@@ -1,10 +1,9 @@
 // Written by dist/erase from crates/cqlp_cell/src/open_values.rt.
 //! The values around the one that is read.
 
-use crate::kit_std::prelude::{Vec};
+use crate::kit_std::prelude::{KitVec, Vec};
 use crate::cqlp_note::NoMemory;
 use crate::cqlp_type::TypeTable;
-use crate::kit_std::alloc::Allocator;
 
 /// What is read next in an open value.
 #[derive(Clone, Copy)]
@@ -36,16 +35,17 @@ pub(crate) struct OpenValue {
 }
 
 /// The open values, the outermost first.
-pub(crate) struct OpenValues<A: Allocator> {
-    values: Vec<OpenValue, A>,
+pub(crate) struct OpenValues {
+    values: Vec<OpenValue>,
     room: u32,
 }
 
-impl<A: Allocator> OpenValues<A> {
+impl OpenValues {
     /// With room for this many.
-    pub(crate) fn new(alloc: A, room: u32) -> Result<Self, NoMemory> {
+    #[cfg_attr(not(feature = "cli"), inline)]
+    pub(crate) fn new(room: u32) -> Result<Self, NoMemory> {
         Ok(OpenValues {
-            values: Vec::with_capacity(alloc, room as usize)?,
+            values: Vec::kit_with_capacity(room as usize)?,
             room,
         })
     }
@@ -56,6 +56,7 @@ impl<A: Allocator> OpenValues<A> {
     }
 
     /// How many values its memory has places for: the room, for as long as it lives.
+    #[cfg_attr(not(feature = "cli"), inline)]
     pub(crate) fn capacity(&self) -> usize {
         self.values.capacity()
     }
@@ -72,7 +73,7 @@ impl<A: Allocator> OpenValues<A> {
     }
 
     #[inline]
-    pub(crate) fn push(&mut self, value: OpenValue) {
+    pub(crate) fn kit_push(&mut self, value: OpenValue) {
         self.values.push_reserved(value);
     }
 
@@ -93,7 +94,7 @@ impl<A: Allocator> OpenValues<A> {
 
     /// Goes on after the next item of the innermost value.
     #[inline(always)]
-    pub(crate) fn pass_item(&mut self, table: &TypeTable<A>) {
+    pub(crate) fn pass_item(&mut self, table: &TypeTable) {
         let len = self.values.len();
         if len > 0 {
             self.values[len - 1].pass_item(table);

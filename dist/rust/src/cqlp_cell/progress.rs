@@ -5,7 +5,6 @@ use crate::cqlp_cell::open_values::{OpenValue, OpenValues, Order};
 use crate::cqlp_kind::Kind;
 use crate::cqlp_note::{Asked};
 use crate::cqlp_type::TypeTable;
-use crate::kit_std::alloc::Allocator;
 
 /// What is read next.
 #[derive(Clone, Copy)]
@@ -58,7 +57,7 @@ pub(crate) struct DueValue {
 }
 
 /// Where the reading of a cell is.
-pub(crate) struct CellProgress<A: Allocator> {
+pub(crate) struct CellProgress {
     pub limits: Asked,
     /// The offset of what is read next.
     pub offset: u64,
@@ -66,10 +65,10 @@ pub(crate) struct CellProgress<A: Allocator> {
     pub stop: u64,
     pub next: NextInCell,
     pub arrived: Arrived,
-    pub open_values: OpenValues<A>,
+    pub open_values: OpenValues,
 }
 
-impl<A: Allocator> CellProgress<A> {
+impl CellProgress {
     /// What comes next, where nothing of it has come.
     #[inline]
     pub(crate) fn due(&self) -> CellDue {
@@ -92,7 +91,7 @@ impl<A: Allocator> CellProgress<A> {
 
     /// The value that is read next.
     #[inline]
-    pub(crate) fn value(&self, table: &TypeTable<A>) -> DueValue {
+    pub(crate) fn value(&self, table: &TypeTable) -> DueValue {
         match self.next {
             NextInCell::Cell(node) => cell_value(table, node, self.stop),
             NextInCell::Items => {
@@ -106,7 +105,7 @@ impl<A: Allocator> CellProgress<A> {
 
     /// Goes on after this many bytes of the value that was read, or of what is known of it.
     #[inline(always)]
-    pub(crate) fn pass(&mut self, size: u64, table: &TypeTable<A>) {
+    pub(crate) fn pass(&mut self, size: u64, table: &TypeTable) {
         if let NextInCell::Items = self.next {
             self.open_values.pass_item(table);
         }
@@ -126,7 +125,7 @@ impl<A: Allocator> CellProgress<A> {
 
 /// The value that the cell is.
 #[inline]
-fn cell_value<A: Allocator>(table: &TypeTable<A>, node: Option<u32>, stop: u64) -> DueValue {
+fn cell_value(table: &TypeTable, node: Option<u32>, stop: u64) -> DueValue {
     match node {
         Some(node) => value_at(table, node, stop),
         None => DueValue {
@@ -140,7 +139,7 @@ fn cell_value<A: Allocator>(table: &TypeTable<A>, node: Option<u32>, stop: u64) 
 
 /// A value of the type at this node, in a value that ends there.
 #[inline]
-pub(crate) fn value_at<A: Allocator>(table: &TypeTable<A>, node: u32, stop: u64) -> DueValue {
+pub(crate) fn value_at(table: &TypeTable, node: u32, stop: u64) -> DueValue {
     let head = table.node(node).unwrap();
     DueValue {
         kind: head.kind,
@@ -178,7 +177,7 @@ impl OpenValue {
 
     /// Goes on after its next item.
     #[inline(always)]
-    pub(crate) fn pass_item<A: Allocator>(&mut self, table: &TypeTable<A>) {
+    pub(crate) fn pass_item(&mut self, table: &TypeTable) {
         match self.order {
             Order::Elements => self.left -= 1,
             Order::Keys => {

@@ -9,22 +9,23 @@ use crate::cqlp_cell::progress::{Arrived, CellProgress, NextInCell};
 use crate::cqlp_cell::whole::{BareItem, Entered};
 use crate::cqlp_note::{Asked, Limits, NoMemory, Partial};
 use crate::cqlp_type::TypeTable;
-use crate::kit_std::alloc::{Allocator, Global};
 
 /// Reads cells, one at a time, as events. Their contents are read in the caller's `Partial`, and their types are in
 /// the caller's table. Section 6 of `native_protocol_v4.spec`.
-pub struct CellReader<A: Allocator = Global> {
-    progress: CellProgress<A>,
+pub struct CellReader {
+    progress: CellProgress,
 }
 
-impl<A: Allocator> CellReader<A> {
+impl CellReader {
     /// With room for the nesting that the limits allow. Parts have at least one byte.
-    pub(crate) fn new(alloc: A, limits: &Limits) -> Result<Self, NoMemory> {
-        Self::asked(alloc, &Asked::new(limits, false))
+    #[cfg_attr(not(feature = "cli"), inline)]
+    pub(crate) fn new(limits: &Limits) -> Result<Self, NoMemory> {
+        Self::asked(&Asked::new(limits, false))
     }
 
     /// The same, where the caller may ask for a lenient reading.
-    pub(crate) fn asked(alloc: A, limits: &Asked) -> Result<Self, NoMemory> {
+    #[cfg_attr(not(feature = "cli"), inline)]
+    pub(crate) fn asked(limits: &Asked) -> Result<Self, NoMemory> {
         Ok(CellReader {
             progress: CellProgress {
                 limits: *limits,
@@ -32,7 +33,7 @@ impl<A: Allocator> CellReader<A> {
                 stop: 0,
                 next: NextInCell::Nothing,
                 arrived: Arrived::Nothing,
-                open_values: OpenValues::new(alloc, limits.depth)?,
+                open_values: OpenValues::new(limits.depth)?,
             },
         })
     }
@@ -48,22 +49,29 @@ impl<A: Allocator> CellReader<A> {
     }
 
     /// Whether a cell is under way and whole, so that the next push says so.
+    #[cfg_attr(not(feature = "cli"), inline)]
+    #[must_use]
     pub fn done(&self) -> bool {
         matches!(self.progress.next, NextInCell::Items) && self.progress.open_values.len() == 0
     }
 
     /// How many values are open.
+    #[cfg_attr(not(feature = "cli"), inline)]
+    #[must_use]
     pub fn levels(&self) -> u32 {
         self.progress.open_values.len()
     }
 
     /// How many open values its memory has places for: as many as the limits allow, for as long as it lives.
+    #[cfg_attr(not(feature = "cli"), inline)]
+    #[must_use]
     pub fn capacity(&self) -> usize {
         self.progress.open_values.capacity()
     }
 
     /// The offset of what is read next.
     #[inline(always)]
+    #[must_use]
     pub fn offset(&self) -> u64 {
         let progress = &self.progress;
         progress.offset
@@ -76,7 +84,8 @@ impl<A: Allocator> CellReader<A> {
     }
 
     /// How many bytes of the stream were used: those before what is read next, and those of it that have come.
-    pub(crate) fn bytes_used(&self, partial: &Partial<A>) -> u64 {
+    #[cfg_attr(not(feature = "cli"), inline)]
+    pub(crate) fn bytes_used(&self, partial: &Partial) -> u64 {
         match self.progress.arrived {
             Arrived::Nothing => self.progress.offset,
             Arrived::Length | Arrived::Later => self.progress.offset + partial.came(),
@@ -87,10 +96,11 @@ impl<A: Allocator> CellReader<A> {
     }
 
     /// Takes the next bytes of the cell that is under way, and says where the content of an item lies.
+    #[cfg_attr(not(feature = "cli"), inline)]
     pub(crate) fn advance(
         &mut self,
-        partial: &mut Partial<A>,
-        table: &TypeTable<A>,
+        partial: &mut Partial,
+        table: &TypeTable,
         input: &[u8],
     ) -> CellAdvance {
         self.progress.advance(partial, table, input)
@@ -98,6 +108,7 @@ impl<A: Allocator> CellReader<A> {
 
     /// A copy of the innermost value that is open, where what is read next is in it and nothing of that has come.
     #[inline(always)]
+    #[must_use]
     pub fn level(&self) -> Option<Level> {
         self.progress.level()
     }
@@ -111,14 +122,14 @@ impl<A: Allocator> CellReader<A> {
     /// Takes what is next of the cell that is under way, where it has no content, `advance` would hand it out of the
     /// input alone, and all its bytes lie in it; else it does nothing.
     #[inline(always)]
-    pub(crate) fn take_bare(&mut self, table: &TypeTable<A>, input: &[u8]) -> Option<BareItem> {
+    pub(crate) fn take_bare(&mut self, table: &TypeTable, input: &[u8]) -> Option<BareItem> {
         self.progress.take_bare(table, input)
     }
 
     /// Goes on inside the list, the set or the map that is next of the cell under way, where `advance` would do so out of
     /// the input alone, and its length and its count lie in it; else it does nothing.
     #[inline(always)]
-    pub(crate) fn enter(&mut self, table: &TypeTable<A>, input: &[u8]) -> Option<Entered> {
+    pub(crate) fn enter(&mut self, table: &TypeTable, input: &[u8]) -> Option<Entered> {
         self.progress.enter_value(table, input)
     }
 
@@ -130,7 +141,7 @@ impl<A: Allocator> CellReader<A> {
         &self,
         level: Level,
         node: u32,
-        table: &TypeTable<A>,
+        table: &TypeTable,
         input: &[u8],
     ) -> Option<Entered> {
         self.progress.enter_next(level, node, table, input)
@@ -140,10 +151,11 @@ impl<A: Allocator> CellReader<A> {
     ///
     /// The `Partial` comes first: what is lent may be its own, and a clause says what the first parameter is once that
     /// loan has ended.
+    #[cfg_attr(not(feature = "cli"), inline)]
     pub(crate) fn push<'a>(
-        partial: &'a mut Partial<A>,
+        partial: &'a mut Partial,
         reader: &mut Self,
-        table: &TypeTable<A>,
+        table: &TypeTable,
         input: &'a [u8],
     ) -> CellPush<'a> {
         match reader.advance(partial, table, input) {

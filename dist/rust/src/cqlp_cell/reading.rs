@@ -1,6 +1,7 @@
 // Written by dist/erase from crates/cqlp_cell/src/reading.rt.
 //! The steps of reading a cell.
 
+use crate::kit_std::prelude::{KitVec};
 use crate::cqlp_cell::advance::{CellAdvance, CellOutline};
 use crate::cqlp_cell::content::kind_read;
 use crate::cqlp_cell::gather::{empty, gather, lend_bytes};
@@ -13,15 +14,14 @@ use crate::cqlp_kind::Kind;
 use crate::cqlp_kind::content::fault;
 use crate::cqlp_note::{Partial, Reason, Refusal};
 use crate::cqlp_type::TypeTable;
-use crate::kit_std::alloc::Allocator;
 
-impl<A: Allocator> CellProgress<A> {
+impl CellProgress {
     /// Takes the next bytes of the cell. An item without a content, and a refusal, leave the buffer empty.
     #[inline]
     pub(crate) fn advance(
         &mut self,
-        partial: &mut Partial<A>,
-        table: &TypeTable<A>,
+        partial: &mut Partial,
+        table: &TypeTable,
         input: &[u8],
     ) -> CellAdvance {
         let answer = self.step(partial, table, input);
@@ -32,7 +32,8 @@ impl<A: Allocator> CellProgress<A> {
     }
 
     /// Takes the next bytes of the cell.
-    fn step(&mut self, partial: &mut Partial<A>, table: &TypeTable<A>, input: &[u8]) -> CellAdvance {
+    #[cfg_attr(not(feature = "cli"), inline)]
+    fn step(&mut self, partial: &mut Partial, table: &TypeTable, input: &[u8]) -> CellAdvance {
         match self.arrived {
             Arrived::Nothing => match self.due() {
                 CellDue::Nothing => {
@@ -70,14 +71,15 @@ impl<A: Allocator> CellProgress<A> {
     }
 
     /// Takes the next bytes of a scalar of this many bytes, whose length is read.
+    #[cfg_attr(not(feature = "cli"), inline)]
     fn advance_scalar(
         &mut self,
         begun: bool,
         value: DueValue,
         len: u32,
         start: usize,
-        partial: &mut Partial<A>,
-        table: &TypeTable<A>,
+        partial: &mut Partial,
+        table: &TypeTable,
         input: &[u8],
     ) -> CellAdvance {
         let Some(found) = gather(partial, begun, len, self.offset + 4, start, input) else {
@@ -103,14 +105,15 @@ impl<A: Allocator> CellProgress<A> {
     }
 
     /// Takes the next bytes of a list, a set or a map of this many bytes, whose length is read.
+    #[cfg_attr(not(feature = "cli"), inline)]
     fn advance_count(
         &mut self,
         begun: bool,
         value: DueValue,
         len: u32,
         start: usize,
-        partial: &mut Partial<A>,
-        table: &TypeTable<A>,
+        partial: &mut Partial,
+        table: &TypeTable,
         input: &[u8],
     ) -> CellAdvance {
         let at = self.offset + 4;
@@ -132,12 +135,13 @@ impl<A: Allocator> CellProgress<A> {
     }
 
     /// Goes on inside a list, a set or a map of this many bytes, which has this many elements or pairs.
+    #[cfg_attr(not(feature = "cli"), inline)]
     pub(crate) fn enter_counted(
         &mut self,
         value: DueValue,
         len: u32,
         count: u32,
-        table: &TypeTable<A>,
+        table: &TypeTable,
     ) -> CellOutline {
         let level = self.open_values.len();
         self.open_counted(value, len, count, table);
@@ -155,7 +159,7 @@ impl<A: Allocator> CellProgress<A> {
         value: DueValue,
         len: u32,
         count: u32,
-        table: &TypeTable<A>,
+        table: &TypeTable,
     ) -> Level {
         let stop = self.offset + 4 + u64::from(len);
         let (order, other) = inner_order(value, table);
@@ -169,7 +173,7 @@ impl<A: Allocator> CellProgress<A> {
             items: count,
             stop,
         };
-        self.open_values.push(value);
+        self.open_values.kit_push(value);
         let level = self.open_values.len();
         Level {
             value,
@@ -179,17 +183,18 @@ impl<A: Allocator> CellProgress<A> {
     }
 
     /// Goes on inside a tuple or a user-defined type of this many bytes.
+    #[cfg_attr(not(feature = "cli"), inline)]
     pub(crate) fn enter_fields(
         &mut self,
         value: DueValue,
         len: u32,
-        table: &TypeTable<A>,
+        table: &TypeTable,
     ) -> CellOutline {
         let level = self.open_values.len();
         let stop = self.offset + 4 + u64::from(len);
         let arity = u32::from(value.arity);
         self.pass(4, table);
-        self.open_values.push(OpenValue {
+        self.open_values.kit_push(OpenValue {
             order: Order::Fields,
             node: value.inner,
             other: 0,
@@ -205,13 +210,14 @@ impl<A: Allocator> CellProgress<A> {
     }
 
     /// Takes the next bytes of the first part of a scalar of this many bytes, whose length is read.
+    #[cfg_attr(not(feature = "cli"), inline)]
     fn advance_first(
         &mut self,
         begun: bool,
         total: u32,
         start: usize,
-        partial: &mut Partial<A>,
-        table: &TypeTable<A>,
+        partial: &mut Partial,
+        table: &TypeTable,
         input: &[u8],
     ) -> CellAdvance {
         let at = self.offset + 4;
@@ -239,13 +245,14 @@ impl<A: Allocator> CellProgress<A> {
     }
 
     /// Takes the next bytes of a later part of a scalar of `total` bytes, from this offset in it.
+    #[cfg_attr(not(feature = "cli"), inline)]
     fn advance_part(
         &mut self,
         begun: bool,
         offset: u32,
         total: u32,
-        partial: &mut Partial<A>,
-        table: &TypeTable<A>,
+        partial: &mut Partial,
+        table: &TypeTable,
         input: &[u8],
     ) -> CellAdvance {
         let left = total - offset;
@@ -272,13 +279,14 @@ impl<A: Allocator> CellProgress<A> {
     }
 
     /// Goes on after the length of a value, which ends after this many bytes of the input.
+    #[cfg_attr(not(feature = "cli"), inline)]
     fn after_length(
         &mut self,
         value: DueValue,
         len: u32,
         start: usize,
-        partial: &mut Partial<A>,
-        table: &TypeTable<A>,
+        partial: &mut Partial,
+        table: &TypeTable,
         input: &[u8],
     ) -> CellAdvance {
         let at = self.offset;
@@ -307,18 +315,19 @@ impl<A: Allocator> CellProgress<A> {
 
     /// Goes on after a value that has a length alone.
     #[inline]
-    fn pass_length(&mut self, item: CellOutline, used: usize, table: &TypeTable<A>) -> CellAdvance {
+    fn pass_length(&mut self, item: CellOutline, used: usize, table: &TypeTable) -> CellAdvance {
         let at = self.offset;
         self.pass(4, table);
         CellAdvance::Item { at, used, item }
     }
 
     /// Takes the next bytes of a value whose length is not read.
+    #[cfg_attr(not(feature = "cli"), inline)]
     fn advance_length(
         &mut self,
         begun: bool,
-        partial: &mut Partial<A>,
-        table: &TypeTable<A>,
+        partial: &mut Partial,
+        table: &TypeTable,
         input: &[u8],
     ) -> CellAdvance {
         let value = self.value(table);
@@ -335,11 +344,12 @@ impl<A: Allocator> CellProgress<A> {
     }
 
     /// Ends the innermost value, or goes on behind its last field, where the caller is lenient.
+    #[cfg_attr(not(feature = "cli"), inline)]
     fn leave(
         &mut self,
         value: OpenValue,
-        partial: &mut Partial<A>,
-        table: &TypeTable<A>,
+        partial: &mut Partial,
+        table: &TypeTable,
         input: &[u8],
     ) -> CellAdvance {
         if value.has_further(&self.limits, self.offset) {
@@ -350,12 +360,13 @@ impl<A: Allocator> CellProgress<A> {
     }
 
     /// Takes the next bytes behind the last field of the innermost value, which come as the parts of a long scalar do.
+    #[cfg_attr(not(feature = "cli"), inline)]
     fn advance_further(
         &mut self,
         begun: bool,
         value: OpenValue,
-        partial: &mut Partial<A>,
-        table: &TypeTable<A>,
+        partial: &mut Partial,
+        table: &TypeTable,
         input: &[u8],
     ) -> CellAdvance {
         let total = (value.stop - self.offset) as u32;
@@ -368,6 +379,7 @@ impl<A: Allocator> CellProgress<A> {
     }
 
     /// Ends the innermost value.
+    #[cfg_attr(not(feature = "cli"), inline)]
     fn close(&mut self, value: OpenValue) -> CellAdvance {
         let at = self.offset;
         if at < value.stop {
@@ -385,6 +397,7 @@ impl<A: Allocator> CellProgress<A> {
     }
 
     /// Ends the cell by a refusal of what begins at this offset.
+    #[cfg_attr(not(feature = "cli"), inline)]
     fn refuse(&mut self, at: u64, why: Reason) -> CellAdvance {
         self.end();
         CellAdvance::Refused(Refusal { at, why })
@@ -402,7 +415,7 @@ fn next_part(last: bool, offset: u32, total: u32) -> NextInCell {
 
 /// How the items of a list, a set or a map follow one another, and the node of a map's second type.
 #[inline(always)]
-pub(crate) fn inner_order<A: Allocator>(value: DueValue, table: &TypeTable<A>) -> (Order, u32) {
+pub(crate) fn inner_order(value: DueValue, table: &TypeTable) -> (Order, u32) {
     match value.kind {
         Kind::Map => (
             Order::Keys,

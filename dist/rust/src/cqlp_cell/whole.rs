@@ -9,7 +9,6 @@ use crate::cqlp_cell::size::{Sized, size_up};
 use crate::cqlp_kind::Kind;
 use crate::cqlp_kind::content::read_array;
 use crate::cqlp_type::TypeTable;
-use crate::kit_std::alloc::Allocator;
 
 /// The next item of the innermost value that is open, of which nothing has come.
 #[derive(Clone, Copy)]
@@ -50,7 +49,7 @@ pub struct Entered {
     pub level: Level,
 }
 
-impl<A: Allocator> CellProgress<A> {
+impl CellProgress {
     /// The innermost value that is open, where what is read next is in it and nothing of that has come.
     #[inline(always)]
     pub(crate) fn level(&self) -> Option<Level> {
@@ -79,7 +78,7 @@ impl<A: Allocator> CellProgress<A> {
 
     /// Takes what is next, where it has no content and all its bytes lie in the input.
     #[inline(always)]
-    pub(crate) fn take_bare(&mut self, table: &TypeTable<A>, input: &[u8]) -> Option<BareItem> {
+    pub(crate) fn take_bare(&mut self, table: &TypeTable, input: &[u8]) -> Option<BareItem> {
         let Arrived::Nothing = self.arrived else {
             return None;
         };
@@ -106,7 +105,7 @@ impl<A: Allocator> CellProgress<A> {
 
     /// Takes the value that is next, where it has no content, or goes on inside it.
     #[inline(always)]
-    fn take_front(&mut self, table: &TypeTable<A>, input: &[u8]) -> Option<BareItem> {
+    fn take_front(&mut self, table: &TypeTable, input: &[u8]) -> Option<BareItem> {
         let value = self.value(table);
         let at = self.offset;
         let level = self.open_values.len();
@@ -154,7 +153,7 @@ impl<A: Allocator> CellProgress<A> {
         &mut self,
         value: DueValue,
         len: u32,
-        table: &TypeTable<A>,
+        table: &TypeTable,
         input: &[u8],
     ) -> Option<BareItem> {
         let at = self.offset;
@@ -181,7 +180,7 @@ impl<A: Allocator> CellProgress<A> {
     /// Goes on inside the list, the set or the map that is next, where its length and its count are lawful and lie in the
     /// input.
     #[inline(always)]
-    pub(crate) fn enter_value(&mut self, table: &TypeTable<A>, input: &[u8]) -> Option<Entered> {
+    pub(crate) fn enter_value(&mut self, table: &TypeTable, input: &[u8]) -> Option<Entered> {
         let Arrived::Nothing = self.arrived else {
             return None;
         };
@@ -206,7 +205,7 @@ impl<A: Allocator> CellProgress<A> {
         &mut self,
         value: DueValue,
         len: u32,
-        table: &TypeTable<A>,
+        table: &TypeTable,
         input: &[u8],
     ) -> Option<Entered> {
         let at = self.offset;
@@ -234,7 +233,7 @@ impl<A: Allocator> CellProgress<A> {
         &self,
         level: Level,
         node: u32,
-        table: &TypeTable<A>,
+        table: &TypeTable,
         input: &[u8],
     ) -> Option<Entered> {
         let value = value_at(table, node, self.stop);
@@ -257,7 +256,7 @@ impl<A: Allocator> CellProgress<A> {
         node: u32,
         value: DueValue,
         len: u32,
-        table: &TypeTable<A>,
+        table: &TypeTable,
         input: &[u8],
     ) -> Option<Entered> {
         let at = level.offset;

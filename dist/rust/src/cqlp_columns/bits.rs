@@ -1,52 +1,59 @@
 // Written by dist/erase from crates/cqlp_columns/src/bits.rt.
 //! Bits in a row.
 
-use crate::kit_std::prelude::{Vec};
+use crate::kit_std::prelude::{KitVec, Vec};
 use crate::cqlp_columns::bytes::zeros;
-use crate::kit_std::alloc::{AllocError, Allocator};
+use crate::kit_std::alloc::{AllocError};
 
 /// Bits in memory that is taken once: eight in a byte, the first of them the least.
-pub(crate) struct Bits<A: Allocator> {
+pub(crate) struct Bits {
     /// As many as there is room for. There are zeros after the bits so far.
-    bytes: Vec<u8, A>,
+    bytes: Vec<u8>,
     len: usize,
 }
 
-impl<A: Allocator> Bits<A> {
+impl Bits {
     /// With room for at least so many bits. This is the one call that takes memory.
-    pub fn new(alloc: A, room: u32) -> Result<Self, AllocError> {
+    #[cfg_attr(not(feature = "cli"), inline)]
+    pub fn new(room: u32) -> Result<Self, AllocError> {
         let count = room.div_ceil(8) as usize;
         Ok(Bits {
-            bytes: zeros(alloc, count)?,
+            bytes: zeros(count)?,
             len: 0,
         })
     }
 
     /// How many there are.
     #[inline(always)]
+    #[must_use]
     pub fn len(&self) -> usize {
         self.len
     }
 
     /// Where the bytes begin that have them. They stay there for as long as they live.
+    #[cfg_attr(not(feature = "cli"), inline)]
+    #[must_use]
     pub fn address(&self) -> *const u8 {
         self.bytes.as_ptr()
     }
 
     /// Adds a bit at the end.
     #[inline(always)]
-    pub(crate) fn push(&mut self, bit: bool) {
+    pub(crate) fn kit_push(&mut self, bit: bool) {
         add_bit(self.bytes.as_mut_slice(), self.len, bit);
         self.len += 1;
     }
 
     /// Removes all bits, and keeps the memory.
+    #[cfg_attr(not(feature = "cli"), inline)]
     pub fn clear(&mut self) {
         fill_zeros(self.bytes.as_mut_slice());
         self.len = 0;
     }
 
     /// The bytes that have the bits, and zeros after the last.
+    #[cfg_attr(not(feature = "cli"), inline)]
+    #[must_use]
     pub fn as_slice(&self) -> &[u8] {
         &self.bytes[..self.len.div_ceil(8)]
     }

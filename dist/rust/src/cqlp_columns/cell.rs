@@ -1,11 +1,11 @@
 // Written by dist/erase from crates/cqlp_columns/src/cell.rt.
 //! Cells of columns.
 
+use crate::kit_std::prelude::{KitVec};
 use crate::cqlp_columns::bytes::Bytes;
 use crate::cqlp_columns::layout::Layout;
 use crate::cqlp_kind::{Kind, Scalar};
 use crate::cqlp_note::Address;
-use crate::kit_std::alloc::Allocator;
 
 /// A cell of a column whose values have no items.
 #[derive(Clone, Copy, Debug, PartialEq, Eq)]
@@ -125,7 +125,7 @@ fn decimal_len(unscaled: &[u8]) -> usize {
 
 /// Adds the bytes that represent a scalar, for which there is room.
 #[inline(always)]
-pub(crate) fn put_scalar<A: Allocator>(values: &mut Bytes<A>, scalar: &Scalar<'_>) {
+pub(crate) fn put_scalar(values: &mut Bytes, scalar: &Scalar<'_>) {
     match *scalar {
         Scalar::Boolean(_) => {}
         Scalar::Tinyint(n) => put(values, &n.to_le_bytes()),
@@ -157,19 +157,19 @@ pub(crate) fn put_scalar<A: Allocator>(values: &mut Bytes<A>, scalar: &Scalar<'_
 
 /// Adds bytes, for which there is room.
 #[inline(always)]
-pub(crate) fn put<A: Allocator>(values: &mut Bytes<A>, bytes: &[u8]) {
-    values.push(bytes);
+pub(crate) fn put(values: &mut Bytes, bytes: &[u8]) {
+    values.kit_push(bytes);
 }
 
 /// Adds bytes.
 #[inline(always)]
-fn put_array<const N: usize, A: Allocator>(values: &mut Bytes<A>, bytes: [u8; N]) {
+fn put_array<const N: usize>(values: &mut Bytes, bytes: [u8; N]) {
     put(values, &bytes);
 }
 
 /// Adds bytes, the last of them first.
 #[inline(always)]
-fn put_reversed<const N: usize, A: Allocator>(values: &mut Bytes<A>, bytes: [u8; N]) {
+fn put_reversed<const N: usize>(values: &mut Bytes, bytes: [u8; N]) {
     let mut turned = bytes;
     turned.reverse();
     put(values, &turned);

@@ -1,7 +1,7 @@
 // Written by dist/erase from crates/cqlp_columns/src/column.rt.
 //! A column of a batch.
 
-use crate::kit_std::prelude::{Clone, Vec};
+use crate::kit_std::prelude::{KitVec, Vec};
 use crate::cqlp_columns::bits::Bits;
 use crate::cqlp_columns::bytes::Bytes;
 use crate::cqlp_columns::cell::{
@@ -9,7 +9,7 @@ use crate::cqlp_columns::cell::{
 };
 use crate::cqlp_columns::layout::{Layout, layout_of};
 use crate::cqlp_kind::Kind;
-use crate::kit_std::alloc::{AllocError, Allocator, Global};
+use crate::kit_std::alloc::{AllocError};
 
 error! {
 /// Why no column is made.
@@ -41,33 +41,31 @@ pub enum ColumnRefusal {
 }
 
 /// The cells of a column, in arrays as Apache Arrow lays them out. All memory is taken when it is made.
-pub struct Column<A: Allocator = Global> {
+pub struct Column {
     kind: Kind,
     layout: Layout,
     rows: u32,
     size: usize,
-    values: Bytes<A>,
+    values: Bytes,
     /// The values, where they are bits.
-    truths: Bits<A>,
-    offsets: Vec<u64, A>,
-    valid: Bits<A>,
-    empty: Bits<A>,
+    truths: Bits,
+    offsets: Vec<u64>,
+    valid: Bits,
+    empty: Bits,
 }
 
-impl<A: Allocator> Column<A> {
+impl Column {
     /// With no cells, and room for so many, which have at most `size` bytes of values. This is the one call that takes memory: `size`
     /// bytes, 8 for each cell and one more, and three bits for each cell.
     ///
     /// # Errors
     ///
     /// `Unsupported` where values of the kind have items; `NoMemory` where memory is refused.
-    pub fn new(alloc: A, kind: Kind, rows: u32, size: usize) -> Result<Self, MakeError>
-    where
-        A: Clone,
-    {
+    #[cfg_attr(not(feature = "cli"), inline)]
+    pub fn new(kind: Kind, rows: u32, size: usize) -> Result<Self, MakeError> {
         match layout_of(kind) {
             None => Err(MakeError::Unsupported),
-            Some(layout) => match Column::with_layout(alloc, kind, layout, rows, size) {
+            Some(layout) => match Column::with_layout(kind, layout, rows, size) {
                 Ok(column) => Ok(column),
                 Err(_) => Err(MakeError::NoMemory),
             },
@@ -75,42 +73,45 @@ impl<A: Allocator> Column<A> {
     }
 
     /// With no cells, in this layout.
+    #[cfg_attr(not(feature = "cli"), inline)]
     fn with_layout(
-        alloc: A,
         kind: Kind,
         layout: Layout,
         rows: u32,
         size: usize,
-    ) -> Result<Self, AllocError>
-    where
-        A: Clone,
-    {
-        let mut offsets = Vec::with_capacity(alloc.clone()?, rows as usize + 1)?;
+    ) -> Result<Self, AllocError> {
+        let mut offsets = Vec::kit_with_capacity(rows as usize + 1)?;
         put_offset(&mut offsets, layout, 0);
         Ok(Column {
             kind,
             layout,
             rows,
             size,
-            values: Bytes::new(alloc.clone()?, size)?,
-            truths: Bits::new(alloc.clone()?, rows)?,
+            values: Bytes::new(size)?,
+            truths: Bits::new(rows)?,
             offsets,
-            valid: Bits::new(alloc.clone()?, rows)?,
-            empty: Bits::new(alloc, rows)?,
+            valid: Bits::new(rows)?,
+            empty: Bits::new(rows)?,
         })
     }
 
     /// The kind of its values.
+    #[cfg_attr(not(feature = "cli"), inline)]
+    #[must_use]
     pub fn kind(&self) -> Kind {
         self.kind
     }
 
     /// How its values lie in memory.
+    #[cfg_attr(not(feature = "cli"), inline)]
+    #[must_use]
     pub fn layout(&self) -> Layout {
         self.layout
     }
 
     /// The values, one after the other, also zeros for cells without one; where they are bits, the bytes that have them.
+    #[cfg_attr(not(feature = "cli"), inline)]
+    #[must_use]
     pub fn values(&self) -> &[u8] {
         match self.layout {
             Layout::Bits => self.truths.as_slice(),
@@ -119,22 +120,30 @@ impl<A: Allocator> Column<A> {
     }
 
     /// Where each value begins in the bytes, and where the last one ends; none where the layout is not of values of any length. Below 2^63.
+    #[cfg_attr(not(feature = "cli"), inline)]
+    #[must_use]
     pub fn offsets(&self) -> &[u64] {
         &self.offsets
     }
 
     /// A bit for each cell: whether it has a value.
+    #[cfg_attr(not(feature = "cli"), inline)]
+    #[must_use]
     pub fn validity(&self) -> &[u8] {
         self.valid.as_slice()
     }
 
     /// A bit for each cell: whether it has a value of no bytes. Among numbers and other values of a fixed length these have no other place, and
     /// count as having no value.
+    #[cfg_attr(not(feature = "cli"), inline)]
+    #[must_use]
     pub fn empties(&self) -> &[u8] {
         self.empty.as_slice()
     }
 
     /// Where its values begin in memory. Each array stays where it is for as long as the column lives.
+    #[cfg_attr(not(feature = "cli"), inline)]
+    #[must_use]
     pub fn values_address(&self) -> *const u8 {
         match self.layout {
             Layout::Bits => self.truths.address(),
@@ -143,26 +152,36 @@ impl<A: Allocator> Column<A> {
     }
 
     /// Where its offsets begin.
+    #[cfg_attr(not(feature = "cli"), inline)]
+    #[must_use]
     pub fn offsets_address(&self) -> *const u64 {
         self.offsets.as_ptr()
     }
 
     /// Where the bits begin that say which cells have a value.
+    #[cfg_attr(not(feature = "cli"), inline)]
+    #[must_use]
     pub fn validity_address(&self) -> *const u8 {
         self.valid.address()
     }
 
     /// Where the bits begin that say which cells have a value of no bytes.
+    #[cfg_attr(not(feature = "cli"), inline)]
+    #[must_use]
     pub fn empties_address(&self) -> *const u8 {
         self.empty.address()
     }
 
     /// How many cells it has.
+    #[cfg_attr(not(feature = "cli"), inline)]
+    #[must_use]
     pub fn len(&self) -> usize {
         self.valid.len()
     }
 
     /// Whether it has none.
+    #[cfg_attr(not(feature = "cli"), inline)]
+    #[must_use]
     pub fn is_empty(&self) -> bool {
         self.valid.len() == 0
     }
@@ -195,7 +214,7 @@ impl<A: Allocator> Column<A> {
         match self.refusal(cell) {
             Some(why) => Err(why),
             None => {
-                self.push(lend(cell));
+                self.kit_push(lend(cell));
                 Ok(())
             }
         }
@@ -203,6 +222,7 @@ impl<A: Allocator> Column<A> {
 
     /// Why it does not take a cell.
     #[inline(always)]
+    #[must_use]
     pub fn refusal(&self, cell: &Cell<'_>) -> Option<ColumnRefusal> {
         let cell = lend(cell);
         if !is_of(self.kind, cell) {
@@ -234,16 +254,17 @@ impl<A: Allocator> Column<A> {
 
     /// Adds a cell.
     #[inline(always)]
-    pub(crate) fn push(&mut self, cell: CellRef<'_>) {
+    pub(crate) fn kit_push(&mut self, cell: CellRef<'_>) {
         let layout = self.layout_of_kind();
         put_cell(&mut self.values, layout, cell);
         let end = self.values.len() as u64;
         put_beside(&mut self.truths, &mut self.offsets, layout, cell, end);
-        self.valid.push(is_valid(layout, cell));
-        self.empty.push(is_empty(cell));
+        self.valid.kit_push(is_valid(layout, cell));
+        self.empty.kit_push(is_empty(cell));
     }
 
     /// Removes all cells, and keeps the memory.
+    #[cfg_attr(not(feature = "cli"), inline)]
     pub fn clear(&mut self) {
         self.values.clear();
         self.truths.clear();
@@ -289,7 +310,7 @@ fn blank_len(layout: Layout) -> usize {
 
 /// Adds the bytes in a cell's place, for which there is room.
 #[inline(always)]
-fn put_cell<A: Allocator>(values: &mut Bytes<A>, layout: Layout, cell: CellRef<'_>) {
+fn put_cell(values: &mut Bytes, layout: Layout, cell: CellRef<'_>) {
     match cell {
         CellRef::Null | CellRef::Empty => values.push_zeros(blank_len(layout)),
         CellRef::Holds(scalar) => put_scalar(values, scalar),
@@ -298,16 +319,16 @@ fn put_cell<A: Allocator>(values: &mut Bytes<A>, layout: Layout, cell: CellRef<'
 
 /// Adds what a cell has beside its bytes: the bit in its place, where values are bits, or where it ends, where the layout has offsets.
 #[inline(always)]
-fn put_beside<A: Allocator>(
-    truths: &mut Bits<A>,
-    offsets: &mut Vec<u64, A>,
+fn put_beside(
+    truths: &mut Bits,
+    offsets: &mut Vec<u64>,
     layout: Layout,
     cell: CellRef<'_>,
     end: u64,
 )
 {
     match layout {
-        Layout::Bits => truths.push(is_true(cell)),
+        Layout::Bits => truths.kit_push(is_true(cell)),
         Layout::Fixed(_) => {}
         Layout::Variable => offsets.push_reserved(end),
     }
@@ -315,7 +336,7 @@ fn put_beside<A: Allocator>(
 
 /// Adds an offset, where the layout has offsets.
 #[inline(always)]
-fn put_offset<A: Allocator>(offsets: &mut Vec<u64, A>, layout: Layout, offset: u64) {
+fn put_offset(offsets: &mut Vec<u64>, layout: Layout, offset: u64) {
     match layout {
         Layout::Variable => offsets.push_reserved(offset),
         Layout::Bits | Layout::Fixed(_) => {}
@@ -323,7 +344,8 @@ fn put_offset<A: Allocator>(offsets: &mut Vec<u64, A>, layout: Layout, offset: u
 }
 
 /// Removes all offsets, and leaves the memory in its place.
-fn remove_all<A: Allocator>(offsets: &mut Vec<u64, A>) {
+#[cfg_attr(not(feature = "cli"), inline)]
+fn remove_all(offsets: &mut Vec<u64>) {
     while !offsets.is_empty() {
         let _last = offsets.take_last();
     }

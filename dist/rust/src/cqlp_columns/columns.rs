@@ -1,14 +1,14 @@
 // Written by dist/erase from crates/cqlp_columns/src/columns.rt.
 //! Rows of a page as columns.
 
-use crate::kit_std::prelude::{Clone, Vec};
+use crate::kit_std::prelude::{KitVec, Vec};
 use crate::cqlp_columns::cell::CellRef;
 use crate::cqlp_columns::column::{Column, MakeError};
 use crate::cqlp_columns::found::{Found, found_in};
 use crate::cqlp_columns::layout::layout_of;
 use crate::cqlp_grammar::Event;
 use crate::cqlp_kind::Kind;
-use crate::kit_std::alloc::{AllocError, Allocator, Global};
+use crate::kit_std::alloc::{AllocError};
 
 /// How large a batch may be.
 #[derive(Clone, Copy, Debug, PartialEq, Eq)]
@@ -46,9 +46,9 @@ pub enum TakeError {
 }
 
 /// Rows of a page as columns: a batch of them, in memory that is taken once. An event of a page is taken, or refused by name.
-pub struct Columns<A: Allocator = Global> {
+pub struct Columns {
     limits: BatchLimits,
-    columns: Vec<Column<A>, A>,
+    columns: Vec<Column>,
     /// The column of the next cell, or [`NO_TURN`].
     turn: usize,
     /// Whether each column has at most as many bytes of values as a row may begin with.
@@ -58,24 +58,22 @@ pub struct Columns<A: Allocator = Global> {
 /// No column's turn: a row begins next, for which there is no room.
 const NO_TURN: usize = usize::MAX;
 
-impl<A: Allocator> Columns<A> {
+impl Columns {
     /// With no rows, and a column for each of these kinds. This is the one call that takes memory: for each column `bytes` and `content`, 8 bytes for
     /// each row and one more, and three bits for each row.
     ///
     /// # Errors
     ///
     /// In this order: `TooManyColumns`; `Unsupported` where values of one of the kinds have items; `NoMemory` where memory is refused.
-    pub fn new(alloc: A, limits: BatchLimits, kinds: &[Kind]) -> Result<Self, MakeError>
-    where
-        A: Clone,
-    {
+    #[cfg_attr(not(feature = "cli"), inline)]
+    pub fn new(limits: BatchLimits, kinds: &[Kind]) -> Result<Self, MakeError> {
         if kinds.len() > limits.columns as usize {
             return Err(MakeError::TooManyColumns);
         }
         if !have_layouts(kinds) {
             return Err(MakeError::Unsupported);
         }
-        match make_columns(alloc, limits, kinds) {
+        match make_columns(limits, kinds) {
             Ok(columns) => {
                 let light = true;
                 let turn = first_turn(&columns, limits, light);
@@ -91,11 +89,15 @@ impl<A: Allocator> Columns<A> {
     }
 
     /// The columns. Where a row is under way, the first of them have a cell more than [`Columns::rows`] says.
-    pub fn columns(&self) -> &[Column<A>] {
+    #[cfg_attr(not(feature = "cli"), inline)]
+    #[must_use]
+    pub fn columns(&self) -> &[Column] {
         &self.columns
     }
 
     /// How many whole rows there are.
+    #[cfg_attr(not(feature = "cli"), inline)]
+    #[must_use]
     pub fn rows(&self) -> usize {
         match self.columns.last() {
             None => 0,
@@ -105,6 +107,7 @@ impl<A: Allocator> Columns<A> {
 
     /// Whether a row begins next for which there is no room, so that no cell is taken before the batch is cleared.
     #[inline]
+    #[must_use]
     pub fn is_full(&self) -> bool {
         self.turn == NO_TURN
     }
@@ -148,6 +151,7 @@ impl<A: Allocator> Columns<A> {
     }
 
     /// Removes all rows, also one that is under way, and keeps the memory.
+    #[cfg_attr(not(feature = "cli"), inline)]
     pub fn clear(&mut self) {
         clear_all(self.columns.as_mut_slice());
         self.light = true;
@@ -166,26 +170,26 @@ fn has_layout(kind: Kind) -> bool {
 }
 
 /// A column for each kind.
-fn make_columns<A: Allocator + Clone>(
-    alloc: A,
+#[cfg_attr(not(feature = "cli"), inline)]
+fn make_columns(
     limits: BatchLimits,
     kinds: &[Kind],
-) -> Result<Vec<Column<A>, A>, AllocError> {
-    let mut columns = Vec::with_capacity(alloc.clone()?, kinds.len())?;
+) -> Result<Vec<Column>, AllocError> {
+    let mut columns = Vec::kit_with_capacity(kinds.len())?;
     for kind in kinds {
-        columns.push_reserved(make_column(alloc.clone()?, limits, *kind)?);
+        columns.push_reserved(make_column(limits, *kind)?);
     }
     Ok(columns)
 }
 
 /// A column of a kind.
-fn make_column<A: Allocator + Clone>(
-    alloc: A,
+#[cfg_attr(not(feature = "cli"), inline)]
+fn make_column(
     limits: BatchLimits,
     kind: Kind,
-) -> Result<Column<A>, AllocError> {
+) -> Result<Column, AllocError> {
     let size = limits.bytes as usize + limits.content as usize;
-    match Column::new(alloc, kind, limits.rows, size) {
+    match Column::new(kind, limits.rows, size) {
         Ok(column) => Ok(column),
         Err(_) => Err(AllocError),
     }
@@ -203,8 +207,8 @@ fn fault_out_of_turn(turn: usize, column: usize) -> TakeError {
 
 /// Why the column of a number does not take a cell.
 #[inline(always)]
-fn fault_among<A: Allocator>(
-    columns: &[Column<A>],
+fn fault_among(
+    columns: &[Column],
     limits: BatchLimits,
     column: usize,
     cell: CellRef<'_>,
@@ -218,8 +222,8 @@ fn fault_among<A: Allocator>(
 
 /// Why a column does not take a cell, where there is room.
 #[inline(always)]
-fn fault_in<A: Allocator>(
-    column: &Column<A>,
+fn fault_in(
+    column: &Column,
     limits: BatchLimits,
     cell: CellRef<'_>,
 ) -> Option<TakeError> {
@@ -234,14 +238,14 @@ fn fault_in<A: Allocator>(
 
 /// Adds a cell to the column of a number, which takes it, and answers whether the column is light with it.
 #[inline(always)]
-fn put_in<A: Allocator>(
-    columns: &mut [Column<A>],
+fn put_in(
+    columns: &mut [Column],
     limits: BatchLimits,
     column: usize,
     cell: CellRef<'_>,
 ) -> bool {
     let column = &mut columns[column];
-    column.push(cell);
+    column.kit_push(cell);
     column.is_light(limits.bytes)
 }
 
@@ -254,7 +258,8 @@ fn keep(light: &mut bool, more: bool) {
 }
 
 /// Removes the cells of each column.
-fn clear_all<A: Allocator>(columns: &mut [Column<A>]) {
+#[cfg_attr(not(feature = "cli"), inline)]
+fn clear_all(columns: &mut [Column]) {
     for column in columns.iter_mut() {
         column.clear();
     }
@@ -262,8 +267,8 @@ fn clear_all<A: Allocator>(columns: &mut [Column<A>]) {
 
 /// Whose turn it is after a cell of this column.
 #[inline(always)]
-fn turn_after<A: Allocator>(
-    columns: &[Column<A>],
+fn turn_after(
+    columns: &[Column],
     limits: BatchLimits,
     light: bool,
     column: usize,
@@ -277,7 +282,7 @@ fn turn_after<A: Allocator>(
 
 /// Whose turn it is where a row begins.
 #[inline(never)]
-fn first_turn<A: Allocator>(columns: &[Column<A>], limits: BatchLimits, light: bool) -> usize {
+fn first_turn(columns: &[Column], limits: BatchLimits, light: bool) -> usize {
     match columns.last() {
         None => 0,
         Some(column) => {

@@ -5,7 +5,6 @@ use crate::cqlp_columns::columns::Columns;
 use crate::cqlp_columns::filled::{Filled, Stop};
 use crate::cqlp_decode::{Decoder, Step};
 use crate::cqlp_grammar::{Event, Sink, SinkFault};
-use crate::kit_std::alloc::{Allocator, Global};
 
 /// Where the last event went.
 #[derive(Clone, Copy, Debug, PartialEq, Eq)]
@@ -22,9 +21,9 @@ pub enum Went {
 
 /// The columns of a page, and a sink for the events that they do not take. As a sink it fails at an event that is not taken, and at the cell that fills
 /// the columns, and both are used then.
-pub struct PageColumns<S: Sink, A: Allocator = Global> {
+pub struct PageColumns<S: Sink> {
     /// The columns that the cells fill, a batch of rows at a time.
-    pub columns: Columns<A>,
+    pub columns: Columns,
     /// What takes all other events: headers, fields, types and the ends of frames.
     pub other: S,
     /// Where the last event went. After a call of [`PageColumns::read`] it is as its answer says: `Last` where the columns are full, and `Cell` where it
@@ -32,9 +31,10 @@ pub struct PageColumns<S: Sink, A: Allocator = Global> {
     pub went: Went,
 }
 
-impl<S: Sink, A: Allocator> PageColumns<S, A> {
+impl<S: Sink> PageColumns<S> {
     /// These columns, with this sink beside them.
-    pub fn new(columns: Columns<A>, other: S) -> Self {
+    #[must_use]
+    pub fn new(columns: Columns, other: S) -> Self {
         PageColumns {
             columns,
             other,
@@ -44,7 +44,7 @@ impl<S: Sink, A: Allocator> PageColumns<S, A> {
 
     /// Reads on: the next events of the input are cells that the columns take, up to the one that fills them or the first that they do not take, which
     /// the other sink gets. Columns that are full already use nothing.
-    pub fn read<B: Allocator>(&mut self, decoder: &mut Decoder<B>, input: &[u8]) -> Filled {
+    pub fn read(&mut self, decoder: &mut Decoder, input: &[u8]) -> Filled {
         if self.columns.is_full() {
             self.went = Went::Last;
             return Filled {
@@ -56,7 +56,7 @@ impl<S: Sink, A: Allocator> PageColumns<S, A> {
     }
 
     /// The same, of columns that are not full.
-    fn read_on<B: Allocator>(&mut self, decoder: &mut Decoder<B>, input: &[u8]) -> Filled {
+    fn read_on(&mut self, decoder: &mut Decoder, input: &[u8]) -> Filled {
         self.went = Went::Cell;
         let mut used = 0;
         loop {
@@ -118,7 +118,7 @@ impl<S: Sink, A: Allocator> PageColumns<S, A> {
     }
 }
 
-impl<S: Sink, A: Allocator> Sink for PageColumns<S, A> {
+impl<S: Sink> Sink for PageColumns<S> {
     #[inline(always)]
     fn take(&mut self, at: u64, event: &Event<'_>) -> Result<(), SinkFault> {
         self.went = self.sort(at, event);

@@ -3,7 +3,7 @@
 
 use crate::cqlp_compose::column::column_type;
 use crate::cqlp_compose::composer::Composer;
-use crate::cqlp_compose::error::BeginError;
+use crate::cqlp_compose::error::BeginPageError;
 use crate::cqlp_compose::page::{BegunPage, bare_page, begun, said_len};
 use crate::cqlp_compose::put::is_at;
 use crate::cqlp_compose::scalar::{Content, scalar_content};
@@ -12,7 +12,6 @@ use crate::cqlp_grammar::Event;
 use crate::cqlp_kind::{Kind, Scalar};
 use crate::cqlp_message::Frame;
 use crate::cqlp_note::Header;
-use crate::kit_std::alloc::Global;
 
 /// A page with its header, its metadata and the count of its rows, and without cells. Section 4.2.5.2 of `native_protocol_v4.spec`.
 ///
@@ -27,8 +26,8 @@ impl BarePage {
     ///
     /// # Errors
     ///
-    /// [`BeginError::Build`] and [`BeginError::NoPage`], as [`OpenPage::begin`](crate::cqlp_compose::OpenPage::begin) has them.
-    pub fn new(composer: Composer, rows: u32) -> Result<BarePage, BeginError> {
+    /// [`BeginPageError::Build`] and [`BeginPageError::NoPage`], as [`OpenPage::begin`](crate::cqlp_compose::OpenPage::begin) has them.
+    pub fn new(composer: Composer, rows: u32) -> Result<BarePage, BeginPageError> {
         match bare_page(composer, rows) {
             Ok(frame) => Ok(BarePage { frame }),
             Err(why) => Err(why),
@@ -39,10 +38,10 @@ impl BarePage {
     ///
     /// # Errors
     ///
-    /// [`BeginError::Unfit`] with what [`Frame::page_unfit`] says of a page of as many rows and bytes. Memory may be refused.
-    pub fn begin(self, alloc: Global, cells_len: u64) -> Result<BegunPage, BeginError> {
+    /// [`BeginPageError::Unfit`] with what [`Frame::page_unfit`] says of a page of as many rows and bytes. Memory may be refused.
+    pub fn begin(self, cells_len: u64) -> Result<BegunPage, BeginPageError> {
         let BarePage { frame } = self;
-        begun(alloc, frame, said_len(cells_len))
+        begun(frame, said_len(cells_len))
     }
 
     /// How many cells it is to have.

@@ -13,7 +13,6 @@ use crate::cqlp_message::Frame;
 use crate::cqlp_note::Header;
 use crate::cqlp_type::TypeTree;
 use crate::cqlp_value::{Value, value_size};
-use crate::kit_std::alloc::Global;
 
 /// Writes some cells of a page into memory, of their events: the next after those that came before, each whole. Section 4.2.5.2 of
 /// `native_protocol_v4.spec`.
@@ -24,7 +23,7 @@ use crate::kit_std::alloc::Global;
 /// written in as many pieces as the caller likes:
 ///
 /// ```text
-/// let mut cells = PageCells::new(alloc, &frame, place, limits);
+/// let mut cells = PageCells::new(&frame, place, limits);
 /// for event in events {
 ///     cells.take(event)?;
 /// }
@@ -57,7 +56,6 @@ impl<'a> PageCells<'a> {
     /// The cells behind this place of this page, none of which has come yet. It asks for no memory. `limits` is what may be held of one cell.
     #[must_use]
     pub fn new(
-        alloc: Global,
         frame: &'a Frame,
         place: PageProgress,
         limits: CellLimits,
@@ -65,9 +63,9 @@ impl<'a> PageCells<'a> {
         PageCells {
             frame,
             place,
-            cell: CellBuilder::new(alloc, limits),
+            cell: CellBuilder::new(limits),
             cut: false,
-            target: VecTarget::new(Vec::new(alloc)),
+            target: VecTarget::new(Vec::new()),
         }
     }
 

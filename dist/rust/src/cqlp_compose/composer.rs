@@ -1,13 +1,12 @@
 // Written by dist/erase from crates/cqlp_compose/src/composer.rt.
 //! The events of one frame, and its bytes.
 
-use crate::kit_std::prelude::{Vec};
+use crate::kit_std::prelude::{KitVec, Vec};
 use crate::cqlp_compose::memory::VecTarget;
 use crate::cqlp_build::{BuildError, BuildLimits, FrameBuilder};
 use crate::cqlp_encode::encode;
 use crate::cqlp_grammar::Event;
 use crate::cqlp_message::Frame;
-use crate::kit_std::alloc::Global;
 
 /// Gathers the events of one frame, and writes the bytes of the frame that has them. Its header need not say how long its body is.
 ///
@@ -19,7 +18,7 @@ use crate::kit_std::alloc::Global;
 /// composer.take(&Event::Text { field: Field::Query, text: "SELECT now() FROM system.local" })?;
 /// composer.take(&Event::Short { field: Field::Consistency, value: 1 })?;
 /// composer.take(&Event::Byte { field: Field::QueryFlags, value: 0 })?;
-/// let bytes = composer.write(alloc)?;
+/// let bytes = composer.write()?;
 /// ```
 pub struct Composer {
     builder: FrameBuilder,
@@ -30,9 +29,9 @@ pub struct Composer {
 impl Composer {
     /// A composer that no event came to, which asks for no memory yet.
     #[must_use]
-    pub fn new(alloc: Global, limits: BuildLimits) -> Composer {
+    pub fn new(limits: BuildLimits) -> Composer {
         Composer {
-            builder: FrameBuilder::new(alloc, limits),
+            builder: FrameBuilder::new(limits),
             ended: false,
         }
     }
@@ -114,20 +113,20 @@ impl Composer {
     /// # Errors
     ///
     /// Those of [`FrameBuilder::close`]; [`BuildError::NoMemory`] also where memory was refused for the bytes.
-    pub fn write(self, alloc: Global) -> Result<Vec<u8>, BuildError> {
+    pub fn write(self) -> Result<Vec<u8>, BuildError> {
         match self.close() {
-            Ok(frame) => written(alloc, &frame),
+            Ok(frame) => written(&frame),
             Err(why) => Err(why),
         }
     }
 }
 
 /// The bytes of a frame.
-fn written(alloc: Global, frame: &Frame) -> Result<Vec<u8>, BuildError> {
+fn written(frame: &Frame) -> Result<Vec<u8>, BuildError> {
     let Ok(len) = frame.measure() else {
         unreachable!()
     };
-    let Ok(room) = Vec::with_capacity(alloc, len as usize) else {
+    let Ok(room) = Vec::kit_with_capacity(len as usize) else {
         return Err(BuildError::NoMemory);
     };
     let mut target = VecTarget::new(room);

@@ -37,7 +37,7 @@ pub enum HeadError {
 error! {
 /// Why a page is not begun.
 #[derive(Clone, Copy, Debug, PartialEq, Eq)]
-pub enum BeginError {
+pub enum BeginPageError {
     /// The events of its head are those of no frame, or past a limit of the composer's; or memory was refused.
     #[error("{0}")]
     Build(BuildError),

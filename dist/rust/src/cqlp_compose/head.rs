@@ -6,7 +6,6 @@ use crate::cqlp_compose::error::HeadError;
 use crate::cqlp_compose::memory::VecTarget;
 use crate::cqlp_encode::{PageError, PageWriter};
 use crate::cqlp_message::Frame;
-use crate::kit_std::alloc::Global;
 
 /// All of a page that comes before its first cell: the header, whose length counts the cells, which are to have `cells_len` bytes, and all
 /// other parts.
@@ -15,8 +14,8 @@ use crate::kit_std::alloc::Global;
 ///
 /// [`HeadError::Unfit`] where [`Frame::page_unfit`] says why the frame is no page that can be written with cells of as many bytes, and
 /// [`HeadError::NoMemory`] where memory was refused.
-pub fn page_head(alloc: Global, frame: &Frame, cells_len: u32) -> Result<Vec<u8>, HeadError> {
-    let mut target = VecTarget::new(Vec::new(alloc));
+pub fn page_head(frame: &Frame, cells_len: u32) -> Result<Vec<u8>, HeadError> {
+    let mut target = VecTarget::new(Vec::new());
     let begun = match PageWriter::begin(frame, cells_len, &mut target) {
         Ok(_) => None,
         Err(PageError::Unfit(why)) => Some(HeadError::Unfit(why)),

@@ -1,7 +1,7 @@
 // Written by dist/erase from crates/cqlp_compose/src/memory.rt.
 //! Bytes that are written into memory.
 
-use crate::kit_std::prelude::{Vec};
+use crate::kit_std::prelude::{KitVec, Vec};
 use crate::cqlp_note::{IoFault, Target};
 
 /// Takes bytes behind those that it has. It fails where memory is refused.
@@ -46,7 +46,7 @@ impl VecTarget {
 
 impl Target for VecTarget {
     fn write(&mut self, bytes: &[u8]) -> Result<usize, IoFault> {
-        match self.bytes.extend_from_slice(bytes) {
+        match self.bytes.kit_extend_from_slice(bytes) {
             Ok(()) => {
                 self.writes = self.writes.saturating_add(1);
                 Ok(bytes.len())

@@ -21,7 +21,7 @@ pub(crate) use bare::{put_event};
 pub use cells::{PageCells, WrittenCells};
 pub use composer::Composer;
 pub use crate::cqlp_build_cells::CellLimits;
-pub use error::{BeginError, HeadError, PageCellError, PutError, Unended};
+pub use error::{BeginPageError, HeadError, PageCellError, PutError, Unended};
 pub use head::page_head;
 pub use measure::event_size;
 pub use page::{BegunPage, OpenPage};

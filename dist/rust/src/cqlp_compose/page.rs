@@ -4,14 +4,13 @@
 use crate::kit_std::prelude::{Vec};
 use crate::cqlp_compose::bare::BarePage;
 use crate::cqlp_compose::composer::Composer;
-use crate::cqlp_compose::error::{BeginError, HeadError, Unended};
+use crate::cqlp_compose::error::{BeginPageError, HeadError, Unended};
 use crate::cqlp_compose::head::page_head;
 use crate::cqlp_compose::place::PageProgress;
 use crate::cqlp_build::BuildError;
 use crate::cqlp_grammar::Event;
 use crate::cqlp_message::{Frame, Message};
 use crate::cqlp_note::Field;
-use crate::kit_std::alloc::Global;
 
 /// A page whose cells come in batches: its frame without cells, and where it is. Section 4.2.5.2 of `native_protocol_v4.spec`.
 ///
@@ -20,9 +19,9 @@ use crate::kit_std::alloc::Global;
 /// then hands on the cells as they come:
 ///
 /// ```text
-/// let BegunPage { mut page, head } = OpenPage::begin(alloc, composer, rows, cells_len)?;
+/// let BegunPage { mut page, head } = OpenPage::begin(composer, rows, cells_len)?;
 /// target.write_all(&head)?;
-/// let mut cells = PutCells::new(alloc, &page, limits);
+/// let mut cells = PutCells::new(&page, limits);
 /// for event in events {
 ///     if let Some(len) = cells.take(event, &mut room)? {
 ///         target.write_all(&room[..len])?;
@@ -51,17 +50,16 @@ impl OpenPage {
     ///
     /// # Errors
     ///
-    /// [`BeginError::Build`] with what [`Composer::take`] says of a count of rows that comes next, or with what [`Composer::close`] says of the frame
-    /// without rows, and then [`BeginError::NoPage`] where this is another message than a page. Then [`BeginError::Unfit`] with what
+    /// [`BeginPageError::Build`] with what [`Composer::take`] says of a count of rows that comes next, or with what [`Composer::close`] says of the frame
+    /// without rows, and then [`BeginPageError::NoPage`] where this is another message than a page. Then [`BeginPageError::Unfit`] with what
     /// [`Frame::page_unfit`] says of a page of as many rows and bytes. Memory may be refused at any time.
     pub fn begin(
-        alloc: Global,
         composer: Composer,
         rows: u32,
         cells_len: u64,
-    ) -> Result<BegunPage, BeginError> {
+    ) -> Result<BegunPage, BeginPageError> {
         match BarePage::new(composer, rows) {
-            Ok(page) => page.begin(alloc, cells_len),
+            Ok(page) => page.begin(cells_len),
             Err(why) => Err(why),
         }
     }
@@ -99,42 +97,42 @@ pub(crate) fn said_len(cells_len: u64) -> u32 {
 }
 
 /// A page without cells, begun with cells of this many bytes.
-pub(crate) fn begun(alloc: Global, frame: Frame, cells_len: u32) -> Result<BegunPage, BeginError> {
+pub(crate) fn begun(frame: Frame, cells_len: u32) -> Result<BegunPage, BeginPageError> {
     let place = match PageProgress::start(&frame, cells_len) {
         Ok(place) => place,
-        Err(why) => return Err(BeginError::Unfit(why)),
+        Err(why) => return Err(BeginPageError::Unfit(why)),
     };
-    match page_head(alloc, &frame, cells_len) {
+    match page_head(&frame, cells_len) {
         Ok(head) => Ok(BegunPage {
             page: OpenPage { frame, place },
             head,
         }),
-        Err(HeadError::Unfit(why)) => Err(BeginError::Unfit(why)),
-        Err(HeadError::NoMemory) => Err(BeginError::Build(BuildError::NoMemory)),
+        Err(HeadError::Unfit(why)) => Err(BeginPageError::Unfit(why)),
+        Err(HeadError::NoMemory) => Err(BeginPageError::Build(BuildError::NoMemory)),
     }
 }
 
 /// The page of as many rows and without cells whose other events came to a composer.
-pub(crate) fn bare_page(mut composer: Composer, rows: u32) -> Result<Frame, BeginError> {
+pub(crate) fn bare_page(mut composer: Composer, rows: u32) -> Result<Frame, BeginPageError> {
     let none = Event::Count {
         field: Field::Rows,
         count: 0,
     };
     if let Err(why) = composer.take(&none) {
-        return Err(BeginError::Build(why));
+        return Err(BeginPageError::Build(why));
     }
     match composer.close() {
         Ok(frame) => with_rows(frame, rows),
-        Err(why) => Err(BeginError::Build(why)),
+        Err(why) => Err(BeginPageError::Build(why)),
     }
 }
 
 /// The same page with as many rows.
-fn with_rows(mut frame: Frame, rows: u32) -> Result<Frame, BeginError> {
+fn with_rows(mut frame: Frame, rows: u32) -> Result<Frame, BeginPageError> {
     if set_rows(&mut frame.message, rows) {
         Ok(frame)
     } else {
-        Err(BeginError::NoPage)
+        Err(BeginPageError::NoPage)
     }
 }
 

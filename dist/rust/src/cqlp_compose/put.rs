@@ -12,7 +12,6 @@ use crate::cqlp_grammar::Event;
 use crate::cqlp_kind::{Kind, Scalar};
 use crate::cqlp_message::Frame;
 use crate::cqlp_note::Header;
-use crate::kit_std::alloc::Global;
 
 /// Puts the next cells of a page into rooms of the caller's, each as soon as its last event has come. Section 4.2.5.2 of
 /// `native_protocol_v4.spec`.
@@ -21,7 +20,6 @@ use crate::kit_std::alloc::Global;
 /// several. A cell of one event is put as it comes. The page stays where it is: the caller makes it go on to [`PutCells::place`]. After an error the
 /// cell under way is forgotten, and nothing of it was put, so its events may be given again, from the first on, as where there was no room.
 pub struct PutCells<'a> {
-    alloc: Global,
     frame: &'a Frame,
     limits: CellLimits,
     /// Behind the last cell that was put.
@@ -33,9 +31,8 @@ pub struct PutCells<'a> {
 impl<'a> PutCells<'a> {
     /// The cells after the place of this page, none of which has come yet. It asks for no memory. `limits` is what may be held of one cell.
     #[must_use]
-    pub fn new(alloc: Global, page: &'a OpenPage, limits: CellLimits) -> PutCells<'a> {
+    pub fn new(page: &'a OpenPage, limits: CellLimits) -> PutCells<'a> {
         PutCells {
-            alloc,
             frame: &page.frame,
             limits,
             place: page.place,
@@ -160,7 +157,7 @@ impl<'a> PutCells<'a> {
     fn take_cells(&mut self) -> PageCells<'a> {
         match self.cells.take() {
             Some(cells) => cells,
-            None => PageCells::new(self.alloc, self.frame, self.place, self.limits),
+            None => PageCells::new(self.frame, self.place, self.limits),
         }
     }
 

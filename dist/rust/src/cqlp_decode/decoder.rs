@@ -1,7 +1,6 @@
 // Written by dist/erase from crates/cqlp_decode/src/decoder.rt.
 //! The decoder of a stream of frames.
 
-use crate::kit_std::prelude::{Clone};
 use crate::cqlp_decode::advance::{EventAdvance, EventOutline, ScalarCell};
 use crate::cqlp_decode::field_loop::take_fields;
 use crate::cqlp_decode::given::{GiveError, GiveReason, GivenUse};
@@ -15,7 +14,6 @@ use crate::cqlp_cell::{CellItem, CellReader};
 use crate::cqlp_grammar::{Event, Finish, Sink};
 use crate::cqlp_note::{Asked, BadLimits, Field, IoFault, Limits, NoMemory, Partial, Prim, Source};
 use crate::cqlp_type::{TypeItem, TypeReader, TypeTable};
-use crate::kit_std::alloc::{Allocator, Global};
 
 error! {
 /// Why a decoder could not be made.
@@ -32,12 +30,12 @@ pub enum NewError {
 
 /// Reads a stream of frames, one event per call, from pieces of any size. All its memory is taken when it is made, and is
 /// as large as its limits say for as long as it lives.
-pub struct Decoder<A: Allocator = Global> {
+pub struct Decoder {
     progress: StreamProgress,
-    parts: Parts<A>,
+    parts: Parts,
 }
 
-impl<A: Allocator + Clone> Decoder<A> {
+impl Decoder {
     /// A decoder at the start of a stream, with room for one content of the greatest length that the limits allow, for
     /// the types of one metadata, for their nesting, and for that of a cell's values: four requests for memory, and the
     /// only ones.
@@ -45,8 +43,9 @@ impl<A: Allocator + Clone> Decoder<A> {
     /// # Errors
     ///
     /// Limits out of their ranges, and memory that is refused.
-    pub fn new(alloc: A, limits: Limits) -> Result<Self, NewError> {
-        Self::asked(alloc, limits, false)
+    #[cfg_attr(not(feature = "cli"), inline)]
+    pub fn new(limits: Limits) -> Result<Self, NewError> {
+        Self::asked(limits, false)
     }
 
     /// The same, for a lenient reading, which takes what nodes and drivers send against the standard, and goes on:
@@ -62,25 +61,28 @@ impl<A: Allocator + Clone> Decoder<A> {
     /// # Errors
     ///
     /// As [`Decoder::new`].
-    pub fn lenient(alloc: A, limits: Limits) -> Result<Self, NewError> {
-        Self::asked(alloc, limits, true)
+    #[cfg_attr(not(feature = "cli"), inline)]
+    pub fn lenient(limits: Limits) -> Result<Self, NewError> {
+        Self::asked(limits, true)
     }
 
-    fn asked(alloc: A, limits: Limits, lenient: bool) -> Result<Self, NewError> {
+    #[cfg_attr(not(feature = "cli"), inline)]
+    fn asked(limits: Limits, lenient: bool) -> Result<Self, NewError> {
         if let Err(bad) = limits.check() {
             return Err(NewError::BadLimits(bad));
         }
-        match Self::with_room(alloc, Asked::new(&limits, lenient)) {
+        match Self::with_room(Asked::new(&limits, lenient)) {
             Ok(decoder) => Ok(decoder),
             Err(NoMemory) => Err(NewError::NoMemory),
         }
     }
 
-    fn with_room(alloc: A, limits: Asked) -> Result<Self, NoMemory> {
-        let partial = Partial::new(alloc.clone()?, limits.text.max(limits.cell))?;
-        let table = TypeTable::new(alloc.clone()?, limits.entries)?;
-        let types = TypeReader::asked(alloc.clone()?, &limits)?;
-        let cells = CellReader::asked(alloc, &limits)?;
+    #[cfg_attr(not(feature = "cli"), inline)]
+    fn with_room(limits: Asked) -> Result<Self, NoMemory> {
+        let partial = Partial::new(limits.text.max(limits.cell))?;
+        let table = TypeTable::new(limits.entries)?;
+        let types = TypeReader::asked(&limits)?;
+        let cells = CellReader::asked(&limits)?;
         let progress = StreamProgress::new(limits);
         let parts = Parts {
             partial,
@@ -93,7 +95,7 @@ impl<A: Allocator + Clone> Decoder<A> {
     }
 }
 
-impl<A: Allocator> Decoder<A> {
+impl Decoder {
     /// The next event that the input leads to. The caller hands in the bytes after those that were used, and goes on
     /// until more are wanted. A refusal is final: each later call says it again.
     ///
@@ -113,6 +115,8 @@ impl<A: Allocator> Decoder<A> {
     ///     }
     /// }
     /// ```
+    #[cfg_attr(not(feature = "cli"), inline)]
+    #[must_use]
     pub fn next<'a>(&'a mut self, input: &'a [u8]) -> Step<'a> {
         if let Some(taken) = self.take_scalar(input) {
             return Step::Event {
@@ -146,7 +150,8 @@ impl<A: Allocator> Decoder<A> {
     /// # Errors
     ///
     /// The first reason against the table, which comes back with it: nothing changes.
-    pub fn give(&mut self, table: TypeTable<A>) -> Result<Option<TypeTable<A>>, GiveError<A>> {
+    #[cfg_attr(not(feature = "cli"), inline)]
+    pub fn give(&mut self, table: TypeTable) -> Result<Option<TypeTable>, GiveError> {
         if let Some(why) = self.reason(&table) {
             return Err(GiveError { why, table });
         }
@@ -155,7 +160,8 @@ impl<A: Allocator> Decoder<A> {
     }
 
     /// Takes back the table that was given, if one is held and not in use. After a refusal none is in use.
-    pub fn take_given(&mut self) -> Option<TypeTable<A>> {
+    #[cfg_attr(not(feature = "cli"), inline)]
+    pub fn take_given(&mut self) -> Option<TypeTable> {
         if self.is_in_use() {
             return None;
         }
@@ -164,7 +170,8 @@ impl<A: Allocator> Decoder<A> {
 
     /// Begins another stream with the memory and the limits that it has, whatever became of the one before: it is what
     /// `new` makes of these limits. The table that is held comes back.
-    pub fn restart(&mut self) -> Option<TypeTable<A>> {
+    #[cfg_attr(not(feature = "cli"), inline)]
+    pub fn restart(&mut self) -> Option<TypeTable> {
         self.progress = StreamProgress::new(self.progress.limits);
         self.parts.partial.stop();
         self.parts.types.stop();
@@ -174,12 +181,16 @@ impl<A: Allocator> Decoder<A> {
     }
 
     /// How the stream ends, if it ends after the bytes that were used.
+    #[cfg_attr(not(feature = "cli"), inline)]
+    #[must_use]
     pub fn finish(&self) -> Finish {
         self.progress.finish(&self.parts)
     }
 
     /// What is held of the stream: at most as many bytes as the greater of the limits on a text and on a cell, twice as
     /// many type options as their limit, since two tables are held, and as many levels as the limit on nesting.
+    #[cfg_attr(not(feature = "cli"), inline)]
+    #[must_use]
     pub fn held(&self) -> Held {
         Held {
             bytes: self.parts.partial.held(),
@@ -190,6 +201,8 @@ impl<A: Allocator> Decoder<A> {
 
     /// The places that the decoder has memory for. The limits alone say how many, at every moment: no length, count or
     /// type of the stream does.
+    #[cfg_attr(not(feature = "cli"), inline)]
+    #[must_use]
     pub fn capacity(&self) -> Capacity {
         Capacity {
             bytes: self.parts.partial.capacity(),
@@ -201,11 +214,14 @@ impl<A: Allocator> Decoder<A> {
 
     /// Where the content that is held, whose bytes `held` counts, lies from the index `start` on: it stays there until the
     /// next call that reads on.
+    #[cfg_attr(not(feature = "cli"), inline)]
+    #[must_use]
     pub fn held_address(&self, start: usize) -> *const u8 {
         self.parts.partial.address(start)
     }
 
     /// Whether a content of a field or of a cell is gathered, of which more bytes are missing than one read of a run gives.
+    #[cfg_attr(not(feature = "cli"), inline)]
     pub(crate) fn gathers(&self) -> bool {
         self.progress.refusal.is_none()
             && matches!(
@@ -223,11 +239,14 @@ impl<A: Allocator> Decoder<A> {
 
     /// The types of the metadata begun last: those handed out since the field MetaFlags was. The table has room for as many as the limit
     /// `entries` allows.
-    pub fn table(&self) -> &TypeTable<A> {
+    #[cfg_attr(not(feature = "cli"), inline)]
+    #[must_use]
+    pub fn table(&self) -> &TypeTable {
         &self.parts.table
     }
 
     /// How many type options the table has that the caller gave.
+    #[cfg_attr(not(feature = "cli"), inline)]
     fn given_len(&self) -> u32 {
         match &self.parts.given {
             Some(table) => table.len(),
@@ -236,7 +255,8 @@ impl<A: Allocator> Decoder<A> {
     }
 
     /// Why a table is not taken now, if so.
-    fn reason(&self, table: &TypeTable<A>) -> Option<GiveReason> {
+    #[cfg_attr(not(feature = "cli"), inline)]
+    fn reason(&self, table: &TypeTable) -> Option<GiveReason> {
         if self.progress.refusal.is_some() {
             Some(GiveReason::Ended)
         } else if !self.progress.limits.types {
@@ -255,6 +275,7 @@ impl<A: Allocator> Decoder<A> {
     }
 
     /// Whether a given table types the frame under way.
+    #[cfg_attr(not(feature = "cli"), inline)]
     fn is_in_use(&self) -> bool {
         self.parts.given.is_some() && matches!(self.progress.given_use, GivenUse::InUse)
     }
@@ -373,11 +394,13 @@ impl<A: Allocator> Decoder<A> {
     }
 
     /// The work of a call, with nothing borrowed in its result.
+    #[cfg_attr(not(feature = "cli"), inline)]
     fn advance(&mut self, input: &[u8]) -> EventAdvance {
         self.progress.advance(&mut self.parts, input)
     }
 
     /// The event that `advance` made of this input.
+    #[cfg_attr(not(feature = "cli"), inline)]
     fn lend<'a>(&'a self, input: &'a [u8], what: EventOutline) -> Event<'a> {
         match what {
             EventOutline::Frame(header) => Event::Frame(header),

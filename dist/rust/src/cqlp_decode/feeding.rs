@@ -5,7 +5,6 @@ use crate::cqlp_decode::decoder::Decoder;
 use crate::cqlp_decode::step::Step;
 use crate::cqlp_grammar::{Sink, SinkFault};
 use crate::cqlp_note::Refusal;
-use crate::kit_std::alloc::Allocator;
 
 /// How feeding a piece ends.
 #[derive(Clone, Copy, Debug, PartialEq, Eq)]
@@ -27,7 +26,7 @@ pub enum Fed {
     },
 }
 
-impl<A: Allocator> Decoder<A> {
+impl Decoder {
     /// Hands all events that the input decides to the sink: the ends of frames and of values too, so that nothing waits for
     /// another call. What `run` does with each piece that it reads, and as fast.
     ///

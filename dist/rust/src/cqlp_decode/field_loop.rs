@@ -15,12 +15,11 @@ use crate::cqlp_decode::step::FaultAfter;
 use crate::cqlp_grammar::{Event, Role, Sink, SinkFault, Want, fault_in};
 use crate::cqlp_kind::content::read_array;
 use crate::cqlp_note::{Asked, Field, Header, Notation, front_field};
-use crate::kit_std::alloc::Allocator;
 
 /// Hands what is due to the sink, as far as the loop takes it, and answers how many bytes of the input it takes.
-pub(crate) fn take_fields<S: Sink, A: Allocator>(
+pub(crate) fn take_fields<S: Sink>(
     progress: &mut StreamProgress,
-    parts: &mut Parts<A>,
+    parts: &mut Parts,
     input: &[u8],
     sink: &mut S,
 ) -> Result<usize, FaultAfter> {
@@ -93,9 +92,9 @@ fn hand_front<S: Sink>(
 impl StreamProgress {
     /// Hands what is due to the sink, if the loop takes it.
     #[inline(always)]
-    fn hand_due<S: Sink, A: Allocator>(
+    fn hand_due<S: Sink>(
         &mut self,
-        parts: &mut Parts<A>,
+        parts: &mut Parts,
         input: &[u8],
         sink: &mut S,
     ) -> Handed {
@@ -155,9 +154,9 @@ impl StreamProgress {
     /// Hands the field that is due to the sink, from whose value nothing follows, if no byte of it has come and it lies
     /// whole in the input.
     #[inline(always)]
-    fn hand_alone<S: Sink, A: Allocator>(
+    fn hand_alone<S: Sink>(
         &mut self,
-        parts: &Parts<A>,
+        parts: &Parts,
         want: Want,
         input: &[u8],
         sink: &mut S,
@@ -189,9 +188,9 @@ impl StreamProgress {
 
     /// Hands the field that is due to the sink, if no byte of it has come, it lies whole in the input and is lawful.
     #[inline(always)]
-    fn hand_field<S: Sink, A: Allocator>(
+    fn hand_field<S: Sink>(
         &mut self,
-        parts: &mut Parts<A>,
+        parts: &mut Parts,
         want: Want,
         input: &[u8],
         sink: &mut S,

@@ -5,7 +5,6 @@
 //! in page.rt says, types that page's cells in place of the metadata's table (`page_table`), and no other page after it.
 
 use crate::cqlp_type::TypeTable;
-use crate::kit_std::alloc::{Allocator, Global};
 
 /// What a table that the caller gave is for.
 #[derive(Clone, Copy)]
@@ -44,11 +43,11 @@ pub enum GiveReason {
 }
 
 /// A table that was not taken, and why.
-pub struct GiveError<A: Allocator = Global> {
+pub struct GiveError {
     /// The first reason against it, in the order of the variants.
     pub why: GiveReason,
     /// The table as the caller gave it, which the decoder did not keep.
-    pub table: TypeTable<A>,
+    pub table: TypeTable,
 }
 
 impl GivenUse {

@@ -16,7 +16,6 @@ use crate::cqlp_decode::step::FaultAfter;
 use crate::cqlp_cell::{BareItem, BarePart, DueItem, Level};
 use crate::cqlp_grammar::{Event, Sink, SinkFault};
 use crate::cqlp_kind::Kind;
-use crate::kit_std::alloc::Allocator;
 
 /// The beginning of the first collection that the loop over cells enters.
 pub(crate) const FIRST_ENTRY: usize = 0;
@@ -71,9 +70,9 @@ pub(crate) fn due_in(rest: &[u8], due: DueItem) -> DueItem {
 
 /// Hands the items of cells to the sink, as far as the loop takes them, and answers how many bytes of the input they
 /// take. It begins cells that have fields, and those that have a count if `counted` says so.
-pub(crate) fn take_items<S: Sink, A: Allocator>(
+pub(crate) fn take_items<S: Sink>(
     progress: &mut StreamProgress,
-    parts: &mut Parts<A>,
+    parts: &mut Parts,
     counted: bool,
     input: &[u8],
     sink: &mut S,
@@ -142,9 +141,9 @@ impl StreamProgress {
     /// The cell that is under way. One that is due begins, if its values have items; one that has a count only if
     /// `counted` says so.
     #[inline(always)]
-    fn enter_cell<A: Allocator>(
+    fn enter_cell(
         &mut self,
-        parts: &mut Parts<A>,
+        parts: &mut Parts,
         counted: bool,
     ) -> Option<CellCursor> {
         match self.stage {
@@ -168,9 +167,9 @@ impl StreamProgress {
 
     /// Hands the items of the innermost value to the sink, as long as each is a scalar, all whose bytes lie in the input.
     #[inline(always)]
-    fn hand_items<S: Sink, A: Allocator>(
+    fn hand_items<S: Sink>(
         &self,
-        parts: &mut Parts<A>,
+        parts: &mut Parts,
         page: CellCursor,
         input: &[u8],
         sink: &mut S,
@@ -182,16 +181,16 @@ impl StreamProgress {
             };
         };
         let mut level = first;
-        let handed = self.hand_inside::<OTHERS, S, A>(parts, &mut level, page, input, sink);
+        let handed = self.hand_inside::<OTHERS, S>(parts, &mut level, page, input, sink);
         parts.cells.set_level(level);
         handed
     }
 
     /// The same of the innermost value in the caller's hands.
     #[inline(always)]
-    pub(crate) fn hand_inside<const LOOP: usize, S: Sink, A: Allocator>(
+    pub(crate) fn hand_inside<const LOOP: usize, S: Sink>(
         &self,
-        parts: &Parts<A>,
+        parts: &Parts,
         level: &mut Level,
         page: CellCursor,
         input: &[u8],
@@ -207,14 +206,14 @@ impl StreamProgress {
                 failed: false,
             };
         };
-        self.hand_list::<LOOP, S, A>(parts, due.kind, level, page, input, sink)
+        self.hand_list::<LOOP, S>(parts, due.kind, level, page, input, sink)
     }
 
     /// The same of any value, whose items may be of many kinds.
     #[inline(always)]
-    fn hand_scalars<S: Sink, A: Allocator>(
+    fn hand_scalars<S: Sink>(
         &self,
-        parts: &Parts<A>,
+        parts: &Parts,
         level: &mut Level,
         page: CellCursor,
         input: &[u8],
@@ -249,9 +248,9 @@ impl StreamProgress {
 
     /// The same of a list or a set, whose items are of this kind.
     #[inline(always)]
-    fn hand_list<const LOOP: usize, S: Sink, A: Allocator>(
+    fn hand_list<const LOOP: usize, S: Sink>(
         &self,
-        parts: &Parts<A>,
+        parts: &Parts,
         kind: Kind,
         level: &mut Level,
         page: CellCursor,
@@ -290,9 +289,9 @@ impl StreamProgress {
 
     /// Hands the items of a list or a set of scalars of this kind to the sink, as long as all bytes of each lie in the input.
     #[inline(always)]
-    fn hand_elements<S: Sink, A: Allocator>(
+    fn hand_elements<S: Sink>(
         &self,
-        parts: &Parts<A>,
+        parts: &Parts,
         kind: Kind,
         level: &mut Level,
         page: CellCursor,
@@ -327,9 +326,9 @@ impl StreamProgress {
 
     /// Takes what is next of the cell that is under way, where it has no content and all its bytes lie in the input.
     #[inline(always)]
-    fn take_part<A: Allocator>(
+    fn take_part(
         &mut self,
-        parts: &mut Parts<A>,
+        parts: &mut Parts,
         page: CellCursor,
         input: &[u8],
     ) -> Option<PartTaken> {

@@ -18,14 +18,13 @@ use crate::cqlp_cell::{BareItem, Entered, Level, PairKinds};
 use crate::cqlp_grammar::{Sink, SinkFault};
 use crate::cqlp_kind::Kind;
 use crate::cqlp_note::Asked;
-use crate::kit_std::alloc::Allocator;
 
 /// Hands the cells that are due to the sink, as far as each is a list, a set or a map of scalars and lies in the input, and
 /// answers how many bytes of the input they take.
 #[inline(never)]
-pub(crate) fn take_lists<S: Sink, A: Allocator>(
+pub(crate) fn take_lists<S: Sink>(
     progress: &mut StreamProgress,
-    parts: &mut Parts<A>,
+    parts: &mut Parts,
     input: &[u8],
     sink: &mut S,
 ) -> Result<usize, FaultAfter> {
@@ -117,7 +116,7 @@ fn hand_value<const LOOP: usize, S: Sink>(
 impl StreamProgress {
     /// Begins the cell that is due, if it is a list, a set or a map.
     #[inline(always)]
-    fn begin_list<A: Allocator>(&mut self, parts: &mut Parts<A>) -> Option<CellCursor> {
+    fn begin_list(&mut self, parts: &mut Parts) -> Option<CellCursor> {
         let StreamStage::BeforeCell(page) = self.stage else {
             return None;
         };
@@ -132,9 +131,9 @@ impl StreamProgress {
     /// Goes on inside the list, the set or the map that is next of the cell under way, where its length and its count are
     /// lawful and lie in the input.
     #[inline(always)]
-    fn enter_list<A: Allocator>(
+    fn enter_list(
         &self,
-        parts: &mut Parts<A>,
+        parts: &mut Parts,
         page: CellCursor,
         input: &[u8],
     ) -> Option<Entered> {
@@ -148,9 +147,9 @@ impl StreamProgress {
     /// Hands the items of the list, the set or the map that a level is to the sink, as long as each is a scalar, all whose
     /// bytes lie in the input.
     #[inline(always)]
-    fn hand_counted<S: Sink, A: Allocator>(
+    fn hand_counted<S: Sink>(
         &self,
-        parts: &Parts<A>,
+        parts: &Parts,
         level: &mut Level,
         page: CellCursor,
         input: &[u8],
@@ -158,7 +157,7 @@ impl StreamProgress {
     ) -> ItemsHanded {
         let table = page_table(page.columns, &parts.table, &parts.given);
         let Some(kinds) = level.pair_kinds(table) else {
-            return self.hand_inside::<LISTS, S, A>(parts, level, page, input, sink);
+            return self.hand_inside::<LISTS, S>(parts, level, page, input, sink);
         };
         // Most keys are texts, so that maps of these have a loop of their own.
         if kinds.key == Kind::Varchar {
@@ -167,18 +166,18 @@ impl StreamProgress {
                 key: Kind::Varchar,
                 value,
             };
-            return self.hand_pairs::<TEXT_KEYS, VALUES_OF_TEXTS, S, A>(
+            return self.hand_pairs::<TEXT_KEYS, VALUES_OF_TEXTS, S>(
                 parts, kinds, level, page, input, sink,
             );
         }
-        self.hand_pairs::<OTHERS, OTHERS, S, A>(parts, kinds, level, page, input, sink)
+        self.hand_pairs::<OTHERS, OTHERS, S>(parts, kinds, level, page, input, sink)
     }
 
     /// The same of a map, whose keys and values are of these kinds.
     #[inline(always)]
-    fn hand_pairs<const KEYS: usize, const VALUES: usize, S: Sink, A: Allocator>(
+    fn hand_pairs<const KEYS: usize, const VALUES: usize, S: Sink>(
         &self,
-        parts: &Parts<A>,
+        parts: &Parts,
         kinds: PairKinds,
         level: &mut Level,
         page: CellCursor,
@@ -213,9 +212,9 @@ impl StreamProgress {
     /// Hands the items of a list, a set or a map in whose level the reading is to the sink, its end, and the cells after
     /// it that are like it. Between two of them the reader and what is read now stay as they are, but for the cursor.
     #[inline(always)]
-    fn hand_lists<S: Sink, A: Allocator>(
+    fn hand_lists<S: Sink>(
         &mut self,
-        parts: &mut Parts<A>,
+        parts: &mut Parts,
         first: CellCursor,
         start: Level,
         input: &[u8],
@@ -263,9 +262,9 @@ impl StreamProgress {
     /// Leaves the cell, at whose end a level is.
     #[cold]
     #[inline(never)]
-    fn end_list<A: Allocator>(
+    fn end_list(
         &mut self,
-        parts: &mut Parts<A>,
+        parts: &mut Parts,
         page: CellCursor,
         level: Level,
         end: BareItem,
@@ -279,9 +278,9 @@ impl StreamProgress {
     /// Goes on from a cell, at whose end a level is, to the next, if that is a list, a set or a map whose length and count
     /// are lawful and lie in the input.
     #[inline(always)]
-    fn next_list<A: Allocator>(
+    fn next_list(
         &mut self,
-        parts: &Parts<A>,
+        parts: &Parts,
         page: CellCursor,
         level: Level,
         end: BareItem,

@@ -3,10 +3,10 @@
 
 use crate::cqlp_grammar::Role;
 use crate::cqlp_type::TypeTable;
-use crate::kit_std::alloc::Allocator;
 
 /// Metadata begins without types.
-pub fn begin_metadata<A: Allocator>(role: Role, table: &mut TypeTable<A>) {
+#[cfg_attr(not(feature = "cli"), inline)]
+pub fn begin_metadata(role: Role, table: &mut TypeTable) {
     if matches!(role, Role::MetaFlags { .. } | Role::PreparedFlags) {
         table.clear();
     }

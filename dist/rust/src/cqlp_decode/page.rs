@@ -6,7 +6,6 @@ use crate::cqlp_grammar::{Role, has, number};
 use crate::cqlp_kind::Kind;
 use crate::cqlp_note::{Asked, Prim};
 use crate::cqlp_type::TypeTable;
-use crate::kit_std::alloc::Allocator;
 
 /// The types of a page's columns.
 #[derive(Clone, Copy, Debug, PartialEq, Eq)]
@@ -38,7 +37,8 @@ pub struct ColumnHead {
 }
 
 impl Columns {
-    fn are_none<A: Allocator>(self, table: &TypeTable<A>) -> bool {
+    #[cfg_attr(not(feature = "cli"), inline)]
+    fn are_none(self, table: &TypeTable) -> bool {
         match self {
             Columns::Typed | Columns::Given => table.is_empty(),
             Columns::Raw(columns) => columns == 0,
@@ -48,7 +48,9 @@ impl Columns {
 
 impl CellCursor {
     /// The first cell of this many rows, if there is one.
-    pub fn first<A: Allocator>(columns: Columns, rows: u32, table: &TypeTable<A>) -> Option<Self> {
+    #[cfg_attr(not(feature = "cli"), inline)]
+    #[must_use]
+    pub fn first(columns: Columns, rows: u32, table: &TypeTable) -> Option<Self> {
         if rows == 0 || columns.are_none(table) {
             return None;
         }
@@ -70,13 +72,14 @@ impl CellCursor {
     }
 
     /// The kind of the column's type.
-    pub(crate) fn kind<A: Allocator>(&self, table: &TypeTable<A>) -> Kind {
+    #[cfg_attr(not(feature = "cli"), inline)]
+    pub(crate) fn kind(&self, table: &TypeTable) -> Kind {
         self.head(table).kind
     }
 
     /// The head of the column's type.
     #[inline(always)]
-    pub(crate) fn head<A: Allocator>(&self, table: &TypeTable<A>) -> ColumnHead {
+    pub(crate) fn head(&self, table: &TypeTable) -> ColumnHead {
         match self.columns {
             Columns::Typed | Columns::Given => {
                 let node = table.node(self.index).unwrap();
@@ -93,7 +96,8 @@ impl CellCursor {
     }
 
     /// The cell after this one, if there is one.
-    pub(crate) fn next<A: Allocator>(self, table: &TypeTable<A>) -> Option<Self> {
+    #[cfg_attr(not(feature = "cli"), inline)]
+    pub(crate) fn next(self, table: &TypeTable) -> Option<Self> {
         let head = self.head(table);
         let mut following = self;
         if following.advance(head.span, table) {
@@ -104,7 +108,7 @@ impl CellCursor {
 
     /// Goes on to the cell after this one, whose column's type takes this many nodes, if there is one.
     #[inline(always)]
-    pub(crate) fn advance<A: Allocator>(&mut self, span: u32, table: &TypeTable<A>) -> bool {
+    pub(crate) fn advance(&mut self, span: u32, table: &TypeTable) -> bool {
         if let Some(index) = self.next_column(span, table) {
             self.column += 1;
             self.index = index;
@@ -121,7 +125,8 @@ impl CellCursor {
     }
 
     /// Where the type of the next column is, if this row has one; that of this one takes so many nodes.
-    fn next_column<A: Allocator>(&self, span: u32, table: &TypeTable<A>) -> Option<u32> {
+    #[cfg_attr(not(feature = "cli"), inline)]
+    fn next_column(&self, span: u32, table: &TypeTable) -> Option<u32> {
         match self.columns {
             Columns::Typed | Columns::Given => {
                 let end = table.len();
@@ -134,11 +139,12 @@ impl CellCursor {
 }
 
 /// The table that types the columns of a page: that of the metadata, or the one that was given.
-pub fn page_table<'a, A: Allocator>(
+#[cfg_attr(not(feature = "cli"), inline)]
+pub fn page_table<'a>(
     columns: Columns,
-    table: &'a TypeTable<A>,
-    given: &'a Option<TypeTable<A>>,
-) -> &'a TypeTable<A> {
+    table: &'a TypeTable,
+    given: &'a Option<TypeTable>,
+) -> &'a TypeTable {
     match (columns, given) {
         (Columns::Given, Some(given)) => given,
         _ => table,
@@ -147,7 +153,9 @@ pub fn page_table<'a, A: Allocator>(
 
 /// Whether a given table types the page that begins after a field of this role: it waits, the metadata has no types,
 /// and as many types are in it as the page has columns.
-pub fn serves<A: Allocator>(role: Role, given: &Option<TypeTable<A>>, given_use: GivenUse) -> bool {
+#[cfg_attr(not(feature = "cli"), inline)]
+#[must_use]
+pub fn serves(role: Role, given: &Option<TypeTable>, given_use: GivenUse) -> bool {
     match (role, given, given_use) {
         (Role::PageRows { flags, columns }, Some(table), GivenUse::Waiting) => {
             has(flags, 0x04) && has_types(table, columns)
@@ -157,18 +165,20 @@ pub fn serves<A: Allocator>(role: Role, given: &Option<TypeTable<A>>, given_use:
 }
 
 /// Whether this many types are side by side in a table.
-fn has_types<A: Allocator>(table: &TypeTable<A>, count: u32) -> bool {
+#[cfg_attr(not(feature = "cli"), inline)]
+fn has_types(table: &TypeTable, count: u32) -> bool {
     table.roots() == count
 }
 
 /// The page that begins after a field of this role that has this value, if it has a cell. A given table types it where
 /// it was found to serve.
-pub fn find_page<A: Allocator>(
+#[cfg_attr(not(feature = "cli"), inline)]
+pub fn find_page(
     limits: &Asked,
     role: Role,
     value: Prim<'_>,
-    table: &TypeTable<A>,
-    given: &Option<TypeTable<A>>,
+    table: &TypeTable,
+    given: &Option<TypeTable>,
     served: bool,
 ) -> Option<CellCursor> {
     let Role::PageRows { flags, columns } = role else {

@@ -16,7 +16,6 @@ use crate::cqlp_grammar::{Event, Sink, SinkFault};
 use crate::cqlp_kind::Kind;
 use crate::cqlp_kind::content::read_array;
 use crate::cqlp_note::Asked;
-use crate::kit_std::alloc::Allocator;
 
 /// The most bytes that a content has of a kind whose contents all have one length: those of a uuid.
 const LONGEST_FIXED: u32 = 16;
@@ -42,9 +41,9 @@ pub enum Bare {
 /// Hands the cells that are due to the sink, as far as the loop takes them, and answers how many bytes of the input
 /// they take.
 #[inline(never)]
-pub(crate) fn take_cells<S: Sink, A: Allocator>(
+pub(crate) fn take_cells<S: Sink>(
     progress: &mut StreamProgress,
-    parts: &Parts<A>,
+    parts: &Parts,
     input: &[u8],
     sink: &mut S,
 ) -> Result<usize, FaultAfter> {
@@ -61,20 +60,20 @@ pub(crate) fn take_cells<S: Sink, A: Allocator>(
     // where the limit on cells admits each content of a fixed length compares none with it.
     match due.columns {
         Columns::Typed | Columns::Given if progress.limits.cell >= LONGEST_FIXED => {
-            take_due::<TYPED_CELLS, S, A>(progress, parts, due, input, sink)
+            take_due::<TYPED_CELLS, S>(progress, parts, due, input, sink)
         }
         Columns::Typed | Columns::Given => {
-            take_due::<OTHERS, S, A>(progress, parts, due, input, sink)
+            take_due::<OTHERS, S>(progress, parts, due, input, sink)
         }
-        Columns::Raw(_) => take_due::<OTHERS, S, A>(progress, parts, due, input, sink),
+        Columns::Raw(_) => take_due::<OTHERS, S>(progress, parts, due, input, sink),
     }
 }
 
 /// The same where this cell is due, nothing was refused and no content is held.
 #[inline(always)]
-fn take_due<const LOOP: usize, S: Sink, A: Allocator>(
+fn take_due<const LOOP: usize, S: Sink>(
     progress: &mut StreamProgress,
-    parts: &Parts<A>,
+    parts: &Parts,
     due: CellCursor,
     input: &[u8],
     sink: &mut S,

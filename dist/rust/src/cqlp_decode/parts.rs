@@ -4,18 +4,17 @@
 use crate::cqlp_cell::CellReader;
 use crate::cqlp_note::Partial;
 use crate::cqlp_type::{TypeReader, TypeTable};
-use crate::kit_std::alloc::Allocator;
 
 /// All that a decoder has memory for.
-pub struct Parts<A: Allocator> {
+pub struct Parts {
     /// The field under way.
-    pub partial: Partial<A>,
+    pub partial: Partial,
     /// The type option under way.
-    pub types: TypeReader<A>,
+    pub types: TypeReader,
     /// The cell under way.
-    pub cells: CellReader<A>,
+    pub cells: CellReader,
     /// The types of the metadata begun last.
-    pub table: TypeTable<A>,
+    pub table: TypeTable,
     /// The table that the caller gave.
-    pub given: Option<TypeTable<A>>,
+    pub given: Option<TypeTable>,
 }

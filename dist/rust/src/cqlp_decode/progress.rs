@@ -10,7 +10,6 @@ use crate::cqlp_cell::{CellAdvance, CellReader, front_scalar};
 use crate::cqlp_grammar::{Expected, Finish, Role, Upcoming, Want, fault_in};
 use crate::cqlp_note::{self as note, Asked, Field, Header, Notation, Partial, Prim, Reason, Refusal};
 use crate::cqlp_type::{TypeAdvance, TypeReader, TypeTable};
-use crate::kit_std::alloc::Allocator;
 
 /// What is read now.
 #[derive(Clone, Copy)]
@@ -66,7 +65,8 @@ impl StreamProgress {
     }
 
     /// Takes the next step, as far as the input goes.
-    pub(crate) fn advance<A: Allocator>(&mut self, parts: &mut Parts<A>, input: &[u8]) -> EventAdvance {
+    #[cfg_attr(not(feature = "cli"), inline)]
+    pub(crate) fn advance(&mut self, parts: &mut Parts, input: &[u8]) -> EventAdvance {
         if let Some(refusal) = self.refusal {
             return EventAdvance::Refused(refusal);
         }
@@ -79,7 +79,8 @@ impl StreamProgress {
     }
 
     /// How the stream ends, if it ends here.
-    pub(crate) fn finish<A: Allocator>(&self, parts: &Parts<A>) -> Finish {
+    #[cfg_attr(not(feature = "cli"), inline)]
+    pub(crate) fn finish(&self, parts: &Parts) -> Finish {
         if let Some(refusal) = self.refusal {
             return Finish::Refused(refusal);
         }
@@ -93,7 +94,8 @@ impl StreamProgress {
     }
 
     /// How many bytes of the stream have come.
-    fn bytes_used<A: Allocator>(&self, parts: &Parts<A>) -> u64 {
+    #[cfg_attr(not(feature = "cli"), inline)]
+    fn bytes_used(&self, parts: &Parts) -> u64 {
         match self.stage {
             StreamStage::Header | StreamStage::Extra => self.offset + self.came,
             StreamStage::BeforeType | StreamStage::BeforeCell(_) => self.offset,
@@ -144,7 +146,8 @@ impl StreamProgress {
     }
 
     /// The next step, where there was no refusal.
-    fn step<A: Allocator>(&mut self, parts: &mut Parts<A>, input: &[u8]) -> EventAdvance {
+    #[cfg_attr(not(feature = "cli"), inline)]
+    fn step(&mut self, parts: &mut Parts, input: &[u8]) -> EventAdvance {
         match self.stage {
             StreamStage::Header => self.advance_header(input),
             StreamStage::Field(want) => self.advance_field(parts, want, input),
@@ -223,9 +226,10 @@ impl StreamProgress {
         self.upcoming.pass();
     }
 
-    fn advance_field<A: Allocator>(
+    #[cfg_attr(not(feature = "cli"), inline)]
+    fn advance_field(
         &mut self,
-        parts: &mut Parts<A>,
+        parts: &mut Parts,
         want: Want,
         input: &[u8],
     ) -> EventAdvance {
@@ -256,7 +260,8 @@ impl StreamProgress {
     }
 
     /// Sees that the field has begun.
-    pub(crate) fn ask<A: Allocator>(&self, partial: &mut Partial<A>, want: Want) {
+    #[cfg_attr(not(feature = "cli"), inline)]
+    pub(crate) fn ask(&self, partial: &mut Partial, want: Want) {
         if !partial.is_under_way() {
             let limit = limit_on(&self.limits, want.notation);
             partial.begin(want.notation, limit, self.offset, self.stop);
@@ -266,12 +271,12 @@ impl StreamProgress {
     /// Goes on after a field: with the cells of a page, which a given table may type, or with what is due next in the
     /// message.
     #[inline(always)]
-    pub(crate) fn follow<A: Allocator>(
+    pub(crate) fn follow(
         &mut self,
         role: Role,
         value: Prim<'_>,
-        table: &TypeTable<A>,
-        given: &Option<TypeTable<A>>,
+        table: &TypeTable,
+        given: &Option<TypeTable>,
     )
     {
         let served = serves(role, given, self.given_use);
@@ -286,9 +291,9 @@ impl StreamProgress {
 
     /// Takes the cell that is due, where it is a scalar and all its bytes lie in the input.
     #[inline]
-    pub(crate) fn take_scalar<'a, A: Allocator>(
+    pub(crate) fn take_scalar<'a>(
         &mut self,
-        parts: &Parts<A>,
+        parts: &Parts,
         input: &'a [u8],
     ) -> Option<ScalarCell<'a>> {
         let StreamStage::BeforeCell(page) = self.stage else {
@@ -320,7 +325,7 @@ impl StreamProgress {
 
     /// Goes on after a cell: with the next cell of its page, or with what is due next in the message.
     #[inline(always)]
-    pub(crate) fn after_cell<A: Allocator>(&mut self, page: CellCursor, table: &TypeTable<A>) {
+    pub(crate) fn after_cell(&mut self, page: CellCursor, table: &TypeTable) {
         match page.next(table) {
             Some(page) => self.stage = StreamStage::BeforeCell(page),
             None => self.expect_next(),
@@ -329,18 +334,20 @@ impl StreamProgress {
 
     /// Begins the cell of a page that is due.
     #[inline(always)]
-    pub(crate) fn begin_cell<A: Allocator>(&mut self, page: CellCursor, cells: &mut CellReader<A>) {
+    pub(crate) fn begin_cell(&mut self, page: CellCursor, cells: &mut CellReader) {
         cells.begin(page.node(), self.offset, self.stop);
         self.stage = StreamStage::InCell(page);
     }
 
     /// Begins the type option that is due.
-    fn begin_option<A: Allocator>(&mut self, types: &mut TypeReader<A>) {
+    #[cfg_attr(not(feature = "cli"), inline)]
+    fn begin_option(&mut self, types: &mut TypeReader) {
         types.begin(self.offset, self.stop);
         self.stage = StreamStage::InType;
     }
 
-    fn advance_option<A: Allocator>(&mut self, parts: &mut Parts<A>, input: &[u8]) -> EventAdvance {
+    #[cfg_attr(not(feature = "cli"), inline)]
+    fn advance_option(&mut self, parts: &mut Parts, input: &[u8]) -> EventAdvance {
         match parts
             .types
             .advance(&mut parts.partial, &mut parts.table, input)
@@ -375,9 +382,10 @@ impl StreamProgress {
         self.expect_next();
     }
 
-    fn advance_cell<A: Allocator>(
+    #[cfg_attr(not(feature = "cli"), inline)]
+    fn advance_cell(
         &mut self,
-        parts: &mut Parts<A>,
+        parts: &mut Parts,
         page: CellCursor,
         input: &[u8],
     ) -> EventAdvance {
@@ -406,11 +414,11 @@ impl StreamProgress {
 
     /// Goes on after a cell that is whole.
     #[inline(always)]
-    pub(crate) fn end_cell<A: Allocator>(
+    pub(crate) fn end_cell(
         &mut self,
         page: CellCursor,
-        cells: &mut CellReader<A>,
-        table: &TypeTable<A>,
+        cells: &mut CellReader,
+        table: &TypeTable,
     )
     {
         self.offset = cells.offset();
@@ -448,7 +456,8 @@ impl StreamProgress {
 }
 
 /// How many bytes of the field under way have come.
-fn count_field_bytes<A: Allocator>(partial: &Partial<A>) -> u64 {
+#[cfg_attr(not(feature = "cli"), inline)]
+fn count_field_bytes(partial: &Partial) -> u64 {
     if partial.is_under_way() {
         partial.came()
     } else {

@@ -5,7 +5,6 @@ use crate::cqlp_decode::decoder::Decoder;
 use crate::cqlp_decode::feeding::Fed;
 use crate::cqlp_grammar::{Finish, Sink};
 use crate::cqlp_note::{IoFault, Source};
-use crate::kit_std::alloc::Allocator;
 
 /// How a run ends.
 #[derive(Clone, Copy, Debug, PartialEq, Eq)]
@@ -23,8 +22,8 @@ pub enum Outcome {
 /// Hands all events of a reader's bytes to the sink, from at most `turns` reads, each with room for 4,096 bytes and none
 /// tried again. The events of bytes that the decoder was given before come first. No read is made before the sink has got
 /// all events of the bytes read so far.
-pub fn run<R: Source, S: Sink, A: Allocator>(
-    decoder: &mut Decoder<A>,
+pub fn run<R: Source, S: Sink>(
+    decoder: &mut Decoder,
     reader: &mut R,
     sink: &mut S,
     turns: u64,

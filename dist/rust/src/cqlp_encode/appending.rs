@@ -1,7 +1,7 @@
 // Written by dist/erase from crates/cqlp_encode/src/appending.rt.
 //! A frame behind bytes in memory, written while it is checked.
 
-use crate::kit_std::prelude::{Vec};
+use crate::kit_std::prelude::{KitVec, Vec};
 use crate::cqlp_encode::staged::Staged;
 use crate::cqlp_message::{Frame, PartRef, TakesParts, Tally, Unfit};
 use crate::cqlp_note::{Header, IoFault, Target};
@@ -54,7 +54,7 @@ fn extend(frame: &Frame, bytes: &mut Vec<u8>) -> Option<u32> {
     if !frame.is_directed() || !frame.agrees() || !frame.message.has_its_cells() {
         return None;
     }
-    let none = Vec::new(*bytes.allocator());
+    let none = Vec::new();
     let mut target = Growing::behind(replace(bytes, none));
     let len = write_checked(frame, &mut target);
     *bytes = target.into_bytes();
@@ -151,7 +151,7 @@ impl Growing {
             return Err(IoFault);
         }
         let count = room.min(bytes.len());
-        let _ = self.bytes.extend_from_slice(&bytes[..count]);
+        let _ = self.bytes.kit_extend_from_slice(&bytes[..count]);
         if count == bytes.len() {
             self.writes = self.writes.saturating_add(1);
         }
@@ -164,7 +164,7 @@ impl Target for Growing {
         if self.refused {
             return self.fill(bytes);
         }
-        match self.bytes.extend_from_slice(bytes) {
+        match self.bytes.kit_extend_from_slice(bytes) {
             Ok(()) => {
                 self.writes = self.writes.saturating_add(1);
                 Ok(bytes.len())

@@ -1,13 +1,13 @@
 // Written by dist/erase from crates/cqlp_encode/src/binding.rt.
 //! Values as they are bound to statements, and as they are in pages whose columns are not described.
 
-use crate::kit_std::prelude::{Vec};
+use crate::kit_std::prelude::{KitVec, Vec};
 use crate::cqlp_encode::value_writing::offer_content;
 use crate::cqlp_message::OwnedBound;
 use crate::cqlp_note::{Header, IoFault, Target};
 use crate::cqlp_type::TypeTree;
 use crate::cqlp_value::{Atom, Value, fitting_size};
-use crate::kit_std::alloc::{AllocError, Global};
+use crate::kit_std::alloc::{AllocError};
 
 error! {
 /// Why nothing was made of a value.
@@ -42,11 +42,10 @@ impl From<AllocError> for BindError {
 /// In this order: [`BindError::Unfit`] where [`fits`](crate::cqlp_value::fits) says that the value is none of the type, and [`BindError::TooLong`], before memory is
 /// asked for; [`BindError::NoMemory`] where it was refused.
 pub fn bind_value(
-    alloc: Global,
     value: &Value,
     of: Option<&TypeTree>,
 ) -> Result<OwnedBound, BindError> {
-    let content = content(alloc, value, of)?;
+    let content = content(value, of)?;
     Ok(match value {
         Value::Null => OwnedBound::Null,
         _ => OwnedBound::Bytes(content),
@@ -64,8 +63,8 @@ pub fn bind_value(
 /// # Errors
 ///
 /// Those of [`bind_value`].
-pub fn raw_value(alloc: Global, value: &Value, of: Option<&TypeTree>) -> Result<Value, BindError> {
-    let content = content(alloc, value, of)?;
+pub fn raw_value(value: &Value, of: Option<&TypeTree>) -> Result<Value, BindError> {
+    let content = content(value, of)?;
     Ok(match value {
         Value::Null => Value::Null,
         Value::Empty => Value::Empty,
@@ -74,7 +73,7 @@ pub fn raw_value(alloc: Global, value: &Value, of: Option<&TypeTree>) -> Result<
 }
 
 /// What follows the length of a value of this type.
-fn content(alloc: Global, value: &Value, of: Option<&TypeTree>) -> Result<Vec<u8>, BindError> {
+fn content(value: &Value, of: Option<&TypeTree>) -> Result<Vec<u8>, BindError> {
     let size = match fitting_size(value, of) {
         Some(size) => size,
         None => return Err(BindError::Unfit),
@@ -83,7 +82,7 @@ fn content(alloc: Global, value: &Value, of: Option<&TypeTree>) -> Result<Vec<u8
         return Err(BindError::TooLong);
     }
     let len = size as u32 - 4;
-    let mut target = Gathered::new(alloc, len as usize)?;
+    let mut target = Gathered::new(len as usize)?;
     if offer_content(value, &mut target) < len {
         return Err(BindError::NoMemory);
     }
@@ -101,9 +100,9 @@ struct Gathered {
 
 impl Gathered {
     /// With room for this many bytes, which are asked for at once.
-    fn new(alloc: Global, len: usize) -> Result<Gathered, AllocError> {
+    fn new(len: usize) -> Result<Gathered, AllocError> {
         Ok(Gathered {
-            bytes: Vec::with_capacity(alloc, len)?,
+            bytes: Vec::kit_with_capacity(len)?,
             failures: 0,
             writes: 0,
         })
@@ -122,7 +121,7 @@ impl Gathered {
 
 impl Target for Gathered {
     fn write(&mut self, bytes: &[u8]) -> Result<usize, IoFault> {
-        match self.bytes.extend_from_slice(bytes) {
+        match self.bytes.kit_extend_from_slice(bytes) {
             Ok(()) => {
                 self.writes = self.writes.saturating_add(1);
                 Ok(bytes.len())

@@ -1,6 +1,7 @@
 // Written by dist/erase from crates/cqlp_grammar/src/following.rt.
 //! What follows a header, and what follows a field.
 
+use crate::kit_std::prelude::{KitVec};
 use crate::cqlp_grammar::grammar::{Group, Role};
 use crate::cqlp_grammar::productions::{
     Expected, Want, body_fields, counted, error_fields, event_fields, plain, result_fields,
@@ -44,7 +45,7 @@ impl Upcoming {
             Role::BatchFlags => self.push_batch_parts(number),
             Role::ErrorCode => {
                 self.push_fields(error_fields(number));
-                self.push(plain!(Message, Text16));
+                self.kit_push(plain!(Message, Text16));
             }
             Role::ResultKind => self.push_fields(result_fields(number)),
             Role::ChangeTarget => self.push_fields(target_fields(text(value))),
@@ -71,7 +72,7 @@ impl Upcoming {
     /// A count that is an \[int\].
     fn push_count(&mut self, field: Field, role: Role) {
         let notation = Notation::Count32;
-        self.push(Expected::Field(Want {
+        self.kit_push(Expected::Field(Want {
             field,
             notation,
             role,
@@ -99,7 +100,7 @@ impl Upcoming {
             notation: Notation::Int,
             role: Role::MetaFlags { rows: false },
         });
-        self.push(result_flags);
+        self.kit_push(result_flags);
         self.push_specs(flags, columns);
         self.push_many(Group::KeyIndexes, keys);
     }
@@ -133,11 +134,11 @@ impl Upcoming {
 
     /// The statement of a batch's entry, and its values.
     fn push_entry_parts(&mut self, kind: u32) {
-        self.push(counted!(Values, Group::BatchValues));
+        self.kit_push(counted!(Values, Group::BatchValues));
         if kind == 0 {
-            self.push(plain!(Query, Text32));
+            self.kit_push(plain!(Query, Text32));
         } else {
-            self.push(plain!(StatementId, Bytes16));
+            self.kit_push(plain!(StatementId, Bytes16));
         }
     }
 }

@@ -1,6 +1,7 @@
 // Written by dist/erase from crates/cqlp_grammar/src/upcoming.rt.
 //! What is still to be read of a message.
 
+use crate::kit_std::prelude::{KitVec};
 use crate::cqlp_grammar::grammar::Group;
 use crate::cqlp_grammar::productions::{Expected, group_fields};
 
@@ -93,14 +94,14 @@ impl Upcoming {
     }
 
     /// Puts a field before all else.
-    pub(crate) fn push(&mut self, due: Expected) {
+    pub(crate) fn kit_push(&mut self, due: Expected) {
         self.push_slot(Slot::One(due));
     }
 
     /// Puts a field before all else, where it is.
     pub(crate) fn push_if(&mut self, conforms: bool, due: Expected) {
         if conforms {
-            self.push(due);
+            self.kit_push(due);
         }
     }
 

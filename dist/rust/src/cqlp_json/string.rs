@@ -1,6 +1,7 @@
 // Written by dist/erase from crates/cqlp_json/src/string.rt.
 //! Texts as JSON strings: a quote, a backslash and each control character is escaped.
 
+use crate::kit_std::prelude::{KitVec};
 use crate::cqlp_grammar::SinkFault;
 use crate::cqlp_text::{Pen, TextWriter};
 use crate::kit_std::simd::prelude::*;

@@ -1,14 +1,12 @@
 // Written by dist/erase from crates/cqlp_loop/src/client.rt.
 //! The client.
 
-use crate::kit_host::prelude::{AllocGlobal};
 use crate::cqlp_loop::fault::LoopFault;
 use crate::cqlp_loop::inbox::Inbox;
 use crate::cqlp_loop::lines::print_reply;
 use crate::cqlp_loop::request::Request;
 use crate::cqlp_note::{Opcode, Source, Target};
 use crate::cqlp_session::{Client, Reply, SlotsOrMemory, Ticket};
-use crate::kit_std::alloc::Global;
 
 /// How many requests may be open at a time.
 const SLOTS: u16 = 2;
@@ -25,13 +23,13 @@ impl Caller {
     /// # Errors
     ///
     /// [`LoopFault::NoMemory`] alone.
-    pub fn new(alloc: Global) -> Result<Caller, LoopFault> {
-        let core = match Client::new(alloc, SLOTS) {
+    pub fn new() -> Result<Caller, LoopFault> {
+        let core = match Client::new(SLOTS) {
             Ok(core) => core,
             Err(SlotsOrMemory::NoMemory) => return Err(LoopFault::NoMemory),
             Err(SlotsOrMemory::BadSlots) => unreachable!(),
         };
-        let inbox = Inbox::new(alloc)?;
+        let inbox = Inbox::new()?;
         Ok(Caller { core, inbox })
     }
 
@@ -43,12 +41,11 @@ impl Caller {
     /// [`LoopFault::SocketFault`] where the target fails.
     pub fn ask<W: Target>(
         &mut self,
-        alloc: Global,
         request: Request,
         target: &mut W,
     ) -> Result<(), LoopFault> {
         match self.core.begin(request.kind()) {
-            Ok(ticket) => request.write(alloc, ticket.id, target),
+            Ok(ticket) => request.write(ticket.id, target),
             Err(_) => Err(LoopFault::BadReply),
         }
     }
@@ -60,12 +57,11 @@ impl Caller {
     /// Those of [`Caller::listen`], [`LoopFault::NoMemory`], and [`LoopFault::WriteFault`] where the output fails.
     pub fn hear<R: Source, O: Target>(
         &mut self,
-        alloc: Global,
         source: &mut R,
         out: &mut O,
     ) -> Result<(), LoopFault> {
         let (ticket, opcode) = self.listen(source)?;
-        print_reply(alloc, ticket, opcode, out)
+        print_reply(ticket, opcode, out)
     }
 
     /// Waits for a reply: the ticket of its request, and its opcode.

@@ -1,14 +1,12 @@
 // Written by dist/erase from crates/cqlp_loop/src/conversation.rt.
 //! The conversation.
 
-use crate::kit_host::prelude::{AllocGlobal};
 use crate::cqlp_loop::client::Caller;
 use crate::cqlp_loop::fault::LoopFault;
 use crate::cqlp_loop::lines::print_done;
 use crate::cqlp_loop::request::Request;
 use crate::cqlp_loop::server::Host;
 use crate::cqlp_note::{Source, Target};
-use crate::kit_std::alloc::Global;
 
 /// An end of a connection: the bytes that come to it, and those that go from it.
 pub struct Socket<S, T> {
@@ -28,7 +26,6 @@ pub struct Socket<S, T> {
 ///
 /// [`LoopFault`] names what ends it early. What was printed until then is: whole lines, but where the output failed.
 pub fn talk<CS: Source, CT: Target, SS: Source, ST: Target, O: Target>(
-    alloc: Global,
     count: u16,
     client: &mut Socket<CS, CT>,
     server: &mut Socket<SS, ST>,
@@ -38,18 +35,17 @@ pub fn talk<CS: Source, CT: Target, SS: Source, ST: Target, O: Target>(
 
     // The same of what the client hears and what is printed.
 {
-    let mut caller = Caller::new(alloc)?;
-    let mut host = Host::new(alloc)?;
-    match play(alloc, count, &mut caller, &mut host, client, server, out) {
+    let mut caller = Caller::new()?;
+    let mut host = Host::new()?;
+    match play(count, &mut caller, &mut host, client, server, out) {
         Ok(()) => {}
         Err(fault) => return Err(fault),
     }
-    print_done(alloc, count, out)
+    print_done(count, out)
 }
 
 /// Plays the script, but for its last line.
 fn play<CS: Source, CT: Target, SS: Source, ST: Target, O: Target>(
-    alloc: Global,
     count: u16,
     caller: &mut Caller,
     host: &mut Host,
@@ -57,26 +53,24 @@ fn play<CS: Source, CT: Target, SS: Source, ST: Target, O: Target>(
     server: &mut Socket<SS, ST>,
     out: &mut O,
 ) -> Result<(), LoopFault> {
-    set_up(alloc, caller, host, client, server, out)?;
-    queries(alloc, count, caller, host, client, server, out)
+    set_up(caller, host, client, server, out)?;
+    queries(count, caller, host, client, server, out)
 }
 
 /// Asks for the options, and opens the connection.
 fn set_up<CS: Source, CT: Target, SS: Source, ST: Target, O: Target>(
-    alloc: Global,
     caller: &mut Caller,
     host: &mut Host,
     client: &mut Socket<CS, CT>,
     server: &mut Socket<SS, ST>,
     out: &mut O,
 ) -> Result<(), LoopFault> {
-    exchange(alloc, Request::Options, caller, host, client, server, out)?;
-    exchange(alloc, Request::Startup, caller, host, client, server, out)
+    exchange(Request::Options, caller, host, client, server, out)?;
+    exchange(Request::Startup, caller, host, client, server, out)
 }
 
 /// Sends this many queries.
 fn queries<CS: Source, CT: Target, SS: Source, ST: Target, O: Target>(
-    alloc: Global,
     count: u16,
     caller: &mut Caller,
     host: &mut Host,
@@ -85,17 +79,16 @@ fn queries<CS: Source, CT: Target, SS: Source, ST: Target, O: Target>(
     out: &mut O,
 ) -> Result<(), LoopFault> {
     for pair in 0..count / 2 {
-        exchange_pair(alloc, caller, host, client, server, out)?;
+        exchange_pair(caller, host, client, server, out)?;
     }
     if count % 2 == 0 {
         return Ok(());
     }
-    exchange(alloc, Request::Query, caller, host, client, server, out)
+    exchange(Request::Query, caller, host, client, server, out)
 }
 
 /// Sends a request, has it answered, and prints the line of its reply.
 fn exchange<CS: Source, CT: Target, SS: Source, ST: Target, O: Target>(
-    alloc: Global,
     request: Request,
     caller: &mut Caller,
     host: &mut Host,
@@ -103,46 +96,43 @@ fn exchange<CS: Source, CT: Target, SS: Source, ST: Target, O: Target>(
     server: &mut Socket<SS, ST>,
     out: &mut O,
 ) -> Result<(), LoopFault> {
-    caller.ask(alloc, request, &mut client.target)?;
-    serve(alloc, request, host, server)?;
-    caller.hear(alloc, &mut client.source, out)
+    caller.ask(request, &mut client.target)?;
+    serve(request, host, server)?;
+    caller.hear(&mut client.source, out)
 }
 
 /// Sends two queries, has them answered, the later one first, and prints the lines of their replies.
 fn exchange_pair<CS: Source, CT: Target, SS: Source, ST: Target, O: Target>(
-    alloc: Global,
     caller: &mut Caller,
     host: &mut Host,
     client: &mut Socket<CS, CT>,
     server: &mut Socket<SS, ST>,
     out: &mut O,
 ) -> Result<(), LoopFault> {
-    caller.ask(alloc, Request::Query, &mut client.target)?;
-    caller.ask(alloc, Request::Query, &mut client.target)?;
-    serve_pair(alloc, host, server)?;
-    caller.hear(alloc, &mut client.source, out)?;
-    caller.hear(alloc, &mut client.source, out)
+    caller.ask(Request::Query, &mut client.target)?;
+    caller.ask(Request::Query, &mut client.target)?;
+    serve_pair(host, server)?;
+    caller.hear(&mut client.source, out)?;
+    caller.hear(&mut client.source, out)
 }
 
 /// Takes a request and answers it.
 fn serve<S: Source, T: Target>(
-    alloc: Global,
     request: Request,
     host: &mut Host,
     server: &mut Socket<S, T>,
 ) -> Result<(), LoopFault> {
     let header = host.accept(&mut server.source)?;
-    host.answer(alloc, request, header.stream, &mut server.target)
+    host.answer(request, header.stream, &mut server.target)
 }
 
 /// Takes two queries and answers the later one first.
 fn serve_pair<S: Source, T: Target>(
-    alloc: Global,
     host: &mut Host,
     server: &mut Socket<S, T>,
 ) -> Result<(), LoopFault> {
     let first = host.accept(&mut server.source)?;
     let second = host.accept(&mut server.source)?;
-    host.answer(alloc, Request::Query, second.stream, &mut server.target)?;
-    host.answer(alloc, Request::Query, first.stream, &mut server.target)
+    host.answer(Request::Query, second.stream, &mut server.target)?;
+    host.answer(Request::Query, first.stream, &mut server.target)
 }

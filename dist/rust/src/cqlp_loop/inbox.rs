@@ -1,11 +1,9 @@
 // Written by dist/erase from crates/cqlp_loop/src/inbox.rt.
 //! The messages that come over a socket.
 
-use crate::kit_host::prelude::{AllocGlobal};
 use crate::cqlp_loop::fault::LoopFault;
 use crate::cqlp_decode::{Decoder, Event, NewError, Step};
 use crate::cqlp_note::{Header, IoFault, Limits, Source};
-use crate::kit_std::alloc::Global;
 
 /// How many bytes a read may give.
 const PIECE: usize = 4_096;
@@ -31,8 +29,8 @@ impl Inbox {
     /// # Errors
     ///
     /// [`LoopFault::NoMemory`] alone.
-    pub fn new(alloc: Global) -> Result<Inbox, LoopFault> {
-        match Decoder::new(alloc, Limits::DEFAULT) {
+    pub fn new() -> Result<Inbox, LoopFault> {
+        match Decoder::new(Limits::DEFAULT) {
             Ok(decoder) => Ok(Inbox {
                 decoder,
                 piece: [0; PIECE],

@@ -2,7 +2,7 @@
 //! The requests of the conversation, and their replies. `cqlp loop 3` sends OPTIONS, STARTUP and three times the query, in the
 //! order of conversation.rt.
 
-use crate::kit_host::prelude::{AllocGlobal, String, Vec, vec};
+use crate::kit_host::prelude::{KitString, String, Vec, vec};
 use crate::cqlp_loop::fault::LoopFault;
 use crate::cqlp_encode::{EncodeError, PageError, PageWriter, encode};
 use crate::cqlp_message::{Frame, Message, Metadata, QueryParams, Rows, Spec};
@@ -10,7 +10,7 @@ use crate::cqlp_note::{Opcode, Target};
 use crate::cqlp_session::RequestKind;
 use crate::cqlp_type::{Kind, TypeTree};
 use crate::cqlp_value::{Atom, Value};
-use crate::kit_std::alloc::{AllocError, Global};
+use crate::kit_std::alloc::{AllocError};
 
 /// How many bytes the cell of a page has: an \[int\] for its length, and an int.
 const CELL_LEN: u32 = 8;
@@ -52,11 +52,10 @@ impl Request {
     /// [`LoopFault::NoMemory`], before anything is written, and [`LoopFault::SocketFault`] where the target fails.
     pub fn write<W: Target>(
         self,
-        alloc: Global,
         stream: i16,
         target: &mut W,
     ) -> Result<(), LoopFault> {
-        let message = match self.message(alloc) {
+        let message = match self.message() {
             Ok(message) => message,
             Err(AllocError) => return Err(LoopFault::NoMemory),
         };
@@ -70,11 +69,10 @@ impl Request {
     /// [`LoopFault::NoMemory`], before anything is written, and [`LoopFault::SocketFault`] where the target fails.
     pub fn write_reply<W: Target>(
         self,
-        alloc: Global,
         stream: i16,
         target: &mut W,
     ) -> Result<(), LoopFault> {
-        let message = match self.reply_head(alloc) {
+        let message = match self.reply_head() {
             Ok(message) => message,
             Err(AllocError) => return Err(LoopFault::NoMemory),
         };
@@ -88,15 +86,15 @@ impl Request {
 }
 
 impl Request {
-    fn message(self, alloc: Global) -> Result<Message, AllocError> {
+    fn message(self) -> Result<Message, AllocError> {
         match self {
             Request::Options => Ok(Message::Options),
             Request::Startup => {
-                let version = (text(alloc, "CQL_VERSION")?, text(alloc, "3.0.0")?);
-                Ok(Message::Startup(vec![in alloc; version]?))
+                let version = (text("CQL_VERSION")?, text("3.0.0")?);
+                Ok(Message::Startup(vec![version]?))
             }
             Request::Query => Ok(Message::Query {
-                text: text(alloc, "SELECT c FROM k.t")?,
+                text: text("SELECT c FROM k.t")?,
                 params: QueryParams {
                     consistency: 1,
                     flags: 0,
@@ -111,25 +109,25 @@ impl Request {
     }
 
     /// Its reply, a page without its cells.
-    fn reply_head(self, alloc: Global) -> Result<Message, AllocError> {
+    fn reply_head(self) -> Result<Message, AllocError> {
         match self {
             Request::Options => {
-                let key = text(alloc, "CQL_VERSION")?;
-                let versions = vec![in alloc; text(alloc, "3.0.0")?]?;
-                Ok(Message::Supported(vec![in alloc; (key, versions)]?))
+                let key = text("CQL_VERSION")?;
+                let versions = vec![text("3.0.0")?]?;
+                Ok(Message::Supported(vec![(key, versions)]?))
             }
             Request::Startup => Ok(Message::Ready),
-            Request::Query => Ok(Message::Rows(page(alloc)?)),
+            Request::Query => Ok(Message::Rows(page()?)),
         }
     }
 }
 
 /// The page that answers a query, without its cell.
-fn page(alloc: Global) -> Result<Rows, AllocError> {
-    let table = (text(alloc, "k")?, text(alloc, "t")?);
+fn page() -> Result<Rows, AllocError> {
+    let table = (text("k")?, text("t")?);
     let spec = Spec {
         table: None,
-        name: text(alloc, "c")?,
+        name: text("c")?,
         tree: TypeTree::Plain(Kind::Int),
     };
     let meta = Metadata {
@@ -137,17 +135,17 @@ fn page(alloc: Global) -> Result<Rows, AllocError> {
         columns: 1,
         paging: None,
         table: Some(table),
-        specs: Some(vec![in alloc; spec]?),
+        specs: Some(vec![spec]?),
     };
     Ok(Rows {
         meta,
         rows: 1,
-        cells: Vec::new(alloc),
+        cells: Vec::new(),
     })
 }
 
-fn text(alloc: Global, text: &str) -> Result<String, AllocError> {
-    Ok(String::from_str(alloc, text)?)
+fn text(text: &str) -> Result<String, AllocError> {
+    Ok(String::from_str(text)?)
 }
 
 /// A frame with this message alone.

@@ -1,13 +1,11 @@
 // Written by dist/erase from crates/cqlp_loop/src/server.rt.
 //! The server.
 
-use crate::kit_host::prelude::{AllocGlobal};
 use crate::cqlp_loop::fault::LoopFault;
 use crate::cqlp_loop::inbox::Inbox;
 use crate::cqlp_loop::request::Request;
 use crate::cqlp_note::{Header, Source, Target};
 use crate::cqlp_session::{Server, SlotsOrMemory};
-use crate::kit_std::alloc::Global;
 
 /// How many requests may be open at a time.
 const SLOTS: u16 = 2;
@@ -24,13 +22,13 @@ impl Host {
     /// # Errors
     ///
     /// [`LoopFault::NoMemory`] alone.
-    pub fn new(alloc: Global) -> Result<Host, LoopFault> {
-        let core = match Server::new(alloc, SLOTS) {
+    pub fn new() -> Result<Host, LoopFault> {
+        let core = match Server::new(SLOTS) {
             Ok(core) => core,
             Err(SlotsOrMemory::NoMemory) => return Err(LoopFault::NoMemory),
             Err(SlotsOrMemory::BadSlots) => unreachable!(),
         };
-        let inbox = Inbox::new(alloc)?;
+        let inbox = Inbox::new()?;
         Ok(Host { core, inbox })
     }
 
@@ -58,13 +56,12 @@ impl Host {
     /// [`LoopFault::SocketFault`] where the target fails.
     pub fn answer<W: Target>(
         &mut self,
-        alloc: Global,
         request: Request,
         stream: i16,
         target: &mut W,
     ) -> Result<(), LoopFault> {
         match self.core.answer(stream, request.reply()) {
-            Ok(_) => request.write_reply(alloc, stream, target),
+            Ok(_) => request.write_reply(stream, target),
             Err(_) => Err(LoopFault::BadReply),
         }
     }

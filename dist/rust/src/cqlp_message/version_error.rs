@@ -5,7 +5,7 @@ use crate::kit_std::prelude::{format};
 use crate::cqlp_message::frame::Frame;
 use crate::cqlp_message::message::Message;
 use crate::cqlp_message::response::ErrorExtra;
-use crate::kit_std::alloc::{AllocError, Global};
+use crate::kit_std::alloc::{AllocError};
 
 /// The code of a protocol error. Section 9 of `native_protocol_v4.spec`.
 const PROTOCOL_ERROR: i32 = 0x000A;
@@ -20,9 +20,9 @@ impl Frame {
     /// # Errors
     ///
     /// Memory that is refused: the text of the message takes some.
-    pub fn version_error(alloc: Global, header: &[u8; 9]) -> Result<Frame, AllocError> {
+    pub fn version_error(header: &[u8; 9]) -> Result<Frame, AllocError> {
         let version = header[0] & 0x7F;
-        let message = format!(in alloc;
+        let message = format!(
             "Invalid or unsupported protocol version ({version}); the lowest supported version is 4 and the greatest is 4"
         )?;
         let error = Message::Error {

@@ -1,61 +1,73 @@
 // Written by dist/erase from crates/cqlp_note/src/gathered.rt.
 //! The content of a field out of pieces.
 
-use crate::kit_std::prelude::{Vec};
+use crate::kit_std::prelude::{KitVec, Vec};
 use crate::cqlp_note::refusal::NoMemory;
 use crate::cqlp_note::streams::{IoFault, Source};
-use crate::kit_std::alloc::Allocator;
 
 /// The bytes so far of a content, in memory that is taken once: its capacity is the room, and it lies in one place, for as
 /// long as it lives.
-pub(crate) struct GatheredContent<A: Allocator> {
+pub(crate) struct GatheredContent {
     /// The content, and after it what is left of longer ones before it, so that a piece is copied over them at once.
-    bytes: Vec<u8, A>,
+    bytes: Vec<u8>,
     len: u32,
     room: u32,
 }
 
-impl<A: Allocator> GatheredContent<A> {
+impl GatheredContent {
     /// With room for a content of up to `room` bytes. This is the one call that takes memory.
-    pub fn new(alloc: A, room: u32) -> Result<Self, NoMemory> {
+    #[cfg_attr(not(feature = "cli"), inline)]
+    pub fn new(room: u32) -> Result<Self, NoMemory> {
         Ok(GatheredContent {
-            bytes: Vec::with_capacity(alloc, room as usize)?,
+            bytes: Vec::kit_with_capacity(room as usize)?,
             len: 0,
             room,
         })
     }
 
     /// The bytes so far.
+    #[cfg_attr(not(feature = "cli"), inline)]
+    #[must_use]
     pub fn as_slice(&self) -> &[u8] {
         &self.bytes[..self.len as usize]
     }
 
     /// Where its bytes lie from the index `start` on, or where they end if they are fewer.
+    #[cfg_attr(not(feature = "cli"), inline)]
+    #[must_use]
     pub fn address(&self, start: usize) -> *const u8 {
         address_after(&self.bytes, start.min(self.len as usize))
     }
 
     /// How many bytes there are.
+    #[cfg_attr(not(feature = "cli"), inline)]
+    #[must_use]
     pub fn len(&self) -> u32 {
         self.len
     }
 
     /// Whether there are none.
+    #[cfg_attr(not(feature = "cli"), inline)]
+    #[must_use]
     pub fn is_empty(&self) -> bool {
         self.len == 0
     }
 
     /// How many bytes its memory has places for.
+    #[cfg_attr(not(feature = "cli"), inline)]
+    #[must_use]
     pub fn capacity(&self) -> usize {
         self.bytes.capacity()
     }
 
     /// Removes all bytes, and keeps the memory.
+    #[cfg_attr(not(feature = "cli"), inline)]
     pub fn clear(&mut self) {
         self.len = 0;
     }
 
     /// Adds a piece at the end.
+    #[cfg_attr(not(feature = "cli"), inline)]
     pub(crate) fn append(&mut self, piece: &[u8]) {
         let start = self.len as usize;
         let end = start + piece.len();
@@ -83,17 +95,20 @@ impl<A: Allocator> GatheredContent<A> {
 }
 
 /// The memory of a vector is in a block, so that addresses behind its first are counted on from it. It has nothing to do.
-fn has_address<A: Allocator>(bytes: &Vec<u8, A>)
+#[cfg_attr(not(feature = "cli"), inline)]
+fn has_address(bytes: &Vec<u8>)
 {}
 
 /// Where a byte of a vector lies, or where its bytes end.
-fn address_after<A: Allocator>(bytes: &Vec<u8, A>, start: usize) -> *const u8 {
+#[cfg_attr(not(feature = "cli"), inline)]
+fn address_after(bytes: &Vec<u8>, start: usize) -> *const u8 {
     has_address(bytes);
     unsafe { bytes.as_ptr().byte_add(start) }
 }
 
 /// Adds zeros behind the bytes that there are, so that there are at least so many.
-fn fill_to<A: Allocator>(bytes: &mut Vec<u8, A>, end: usize) {
+#[cfg_attr(not(feature = "cli"), inline)]
+fn fill_to(bytes: &mut Vec<u8>, end: usize) {
     let written = bytes.len();
     if written < end {
         add_zeros(bytes, end - written);
@@ -101,7 +116,8 @@ fn fill_to<A: Allocator>(bytes: &mut Vec<u8, A>, end: usize) {
 }
 
 /// Adds this many zeros.
-fn add_zeros<A: Allocator>(bytes: &mut Vec<u8, A>, count: usize) {
+#[cfg_attr(not(feature = "cli"), inline)]
+fn add_zeros(bytes: &mut Vec<u8>, count: usize) {
     for _ in 0..count {
         bytes.push_reserved(0);
     }

@@ -12,21 +12,21 @@ use crate::cqlp_note::prim::{BoundValue, Primitive};
 use crate::cqlp_note::refusal::{NoMemory, Reason, Refusal};
 use crate::cqlp_note::streams::{IoFault, Source};
 use crate::cqlp_note::utf8::is_text;
-use crate::kit_std::alloc::{Allocator, Global};
 
 /// Reads fields, one at a time. A content that lies whole in one piece is lent from there; one that does not is
 /// gathered in a buffer, which is reserved once.
-pub struct Partial<A: Allocator = Global> {
+pub struct Partial {
     stage: FieldStage,
     wanted: Wanted,
     front: FieldFront,
-    content: GatheredContent<A>,
+    content: GatheredContent,
 }
 
-impl<A: Allocator> Partial<A> {
+impl Partial {
     /// With room for contents of up to `room` bytes, and no field under way. This is the one call that takes memory;
     /// the error is that it was refused.
-    pub fn new(alloc: A, room: u32) -> Result<Self, NoMemory> {
+    #[cfg_attr(not(feature = "cli"), inline)]
+    pub fn new(room: u32) -> Result<Self, NoMemory> {
         Ok(Partial {
             stage: FieldStage::Idle,
             wanted: Wanted {
@@ -36,12 +36,13 @@ impl<A: Allocator> Partial<A> {
                 room: 0,
             },
             front: FieldFront::new(),
-            content: GatheredContent::new(alloc, room)?,
+            content: GatheredContent::new(room)?,
         })
     }
 
     /// Begins a field whose first byte is at the offset `at` of the stream, in a container that ends at `end`. Its
     /// content may have up to `limit` bytes.
+    #[cfg_attr(not(feature = "cli"), inline)]
     pub(crate) fn begin(&mut self, notation: Notation, limit: u32, at: u64, end: u64) {
         self.wanted = Wanted {
             notation,
@@ -55,6 +56,7 @@ impl<A: Allocator> Partial<A> {
     }
 
     /// Ends the field under way, whole or not, if there is one, and forgets its content. The memory stays.
+    #[cfg_attr(not(feature = "cli"), inline)]
     pub fn stop(&mut self) {
         self.stage = FieldStage::Idle;
         self.content.clear();
@@ -62,6 +64,7 @@ impl<A: Allocator> Partial<A> {
 
     /// Takes the next bytes of the field that is under way. A content that lies whole in them is lent from them. No
     /// byte after the field is used; a field that is made or refused has ended.
+    #[cfg_attr(not(feature = "cli"), inline)]
     pub(crate) fn push<'a>(&'a mut self, input: &'a [u8]) -> Push<'a> {
         match self.advance(input) {
             FieldAdvance::More { used } => Push::More { used },
@@ -74,6 +77,7 @@ impl<A: Allocator> Partial<A> {
     }
 
     /// The value of an item that `advance` made of this input.
+    #[cfg_attr(not(feature = "cli"), inline)]
     pub(crate) fn lend<'a>(&'a self, input: &'a [u8], item: FieldOutline) -> Primitive<'a> {
         match item {
             FieldOutline::Plain(prim) => prim,
@@ -89,6 +93,7 @@ impl<A: Allocator> Partial<A> {
 
     /// Does what `push` does, but says where a content lies in place of lending it, so that a reader around this one
     /// can go on before it lends.
+    #[cfg_attr(not(feature = "cli"), inline)]
     pub(crate) fn advance(&mut self, input: &[u8]) -> FieldAdvance {
         if self.is_fresh() {
             // A number that lies whole in the input is most of all fields.
@@ -232,6 +237,7 @@ impl<A: Allocator> Partial<A> {
     }
 
     /// Reads the front of the field, of which some bytes may have come.
+    #[cfg_attr(not(feature = "cli"), inline)]
     fn read_front(&mut self, input: &[u8]) -> FieldAdvance {
         match read_head_of_pieces(self.wanted, &self.front, input) {
             Ok(Head::Whole { used, prim }) => {
@@ -254,6 +260,7 @@ impl<A: Allocator> Partial<A> {
     }
 
     /// Takes a content, of which nothing came before `start` in the input.
+    #[cfg_attr(not(feature = "cli"), inline)]
     fn take_content(
         &mut self,
         start: usize,
@@ -280,6 +287,8 @@ impl<A: Allocator> Partial<A> {
     }
 
     /// Whether a content is gathered, some of which has come, and more than this many bytes of it are missing.
+    #[cfg_attr(not(feature = "cli"), inline)]
+    #[must_use]
     pub fn gathers_more(&self, most: usize) -> bool {
         match self.stage {
             FieldStage::Content { len, .. } if !self.content.is_empty() => {
@@ -301,6 +310,7 @@ impl<A: Allocator> Partial<A> {
     }
 
     /// Ends the field by a refusal.
+    #[cfg_attr(not(feature = "cli"), inline)]
     fn refuse(&mut self, why: Reason) -> FieldAdvance {
         self.stage = FieldStage::Idle;
         self.content.clear();
@@ -311,11 +321,15 @@ impl<A: Allocator> Partial<A> {
     }
 
     /// Whether a field is under way.
+    #[cfg_attr(not(feature = "cli"), inline)]
+    #[must_use]
     pub fn is_under_way(&self) -> bool {
         !matches!(self.stage, FieldStage::Idle)
     }
 
     /// How many bytes of the field that is under way have come.
+    #[cfg_attr(not(feature = "cli"), inline)]
+    #[must_use]
     pub fn came(&self) -> u64 {
         match self.stage {
             FieldStage::Idle => 0,
@@ -326,16 +340,22 @@ impl<A: Allocator> Partial<A> {
 
     /// Where the content that the buffer holds lies from the index `start` on. The buffer lies in one place for as long as
     /// the reader lives, wherever that is moved, and what is in it stays until the next call that changes the reader.
+    #[cfg_attr(not(feature = "cli"), inline)]
+    #[must_use]
     pub fn address(&self, start: usize) -> *const u8 {
         self.content.address(start)
     }
 
     /// How many bytes the buffer holds.
+    #[cfg_attr(not(feature = "cli"), inline)]
+    #[must_use]
     pub fn held(&self) -> u32 {
         self.content.len()
     }
 
     /// How many bytes of a content its memory has places for: the room, for as long as it lives.
+    #[cfg_attr(not(feature = "cli"), inline)]
+    #[must_use]
     pub fn capacity(&self) -> usize {
         self.content.capacity()
     }

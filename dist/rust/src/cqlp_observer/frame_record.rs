@@ -1,7 +1,7 @@
 // Written by dist/erase from crates/cqlp_observer/src/frame_record.rt.
 //! A frame in fewer bytes.
 
-use crate::cqlp_observer::message::{Extent, Frame, Message, is_no_later};
+use crate::cqlp_observer::message::{Extent, SeenFrame, SeenMessage, is_no_later};
 use crate::cqlp_note::Header;
 
 /// A frame, as it is kept while it waits: 40 bytes in place of 56.
@@ -17,7 +17,7 @@ pub(crate) struct FrameRecord {
 
 impl FrameRecord {
     #[inline(always)]
-    pub(crate) fn new(frame: &Frame) -> Self {
+    pub(crate) fn new(frame: &SeenFrame) -> Self {
         let (is_begun_known, begun) = parts_of(frame.begun);
         let (is_ended_known, ended) = parts_of(frame.ended);
         FrameRecord {
@@ -32,8 +32,8 @@ impl FrameRecord {
     }
 
     #[inline(always)]
-    pub(crate) fn frame(&self) -> Frame {
-        Frame {
+    pub(crate) fn frame(&self) -> SeenFrame {
+        SeenFrame {
             header: self.header,
             at: self.at,
             begun: time_of(self.is_begun_known, self.begun),
@@ -66,7 +66,7 @@ pub(crate) struct MessageRecord<T> {
 
 impl<T> MessageRecord<T> {
     #[inline(always)]
-    pub(crate) fn new(message: Message<T>) -> Self {
+    pub(crate) fn new(message: SeenMessage<T>) -> Self {
         MessageRecord {
             frame: FrameRecord::new(&message.frame),
             kept: message.kept,
@@ -74,8 +74,8 @@ impl<T> MessageRecord<T> {
     }
 
     #[inline(always)]
-    pub(crate) fn into_message(self) -> Message<T> {
-        Message {
+    pub(crate) fn into_message(self) -> SeenMessage<T> {
+        SeenMessage {
             frame: self.frame.frame(),
             kept: self.kept,
         }
@@ -92,9 +92,9 @@ impl<T> MessageRecord<T> {
         self.frame.header.stream
     }
 
-    /// Whether it and the next under its stream id are a request and its response, as [`Message::meets`] says.
+    /// Whether it and the next under its stream id are a request and its response, as [`SeenMessage::meets`] says.
     #[inline(always)]
-    pub(crate) fn meets(&self, next: &Message<T>) -> bool {
+    pub(crate) fn meets(&self, next: &SeenMessage<T>) -> bool {
         let frame = self.frame.frame();
         if frame.header.response {
             next.is_request() && is_no_later(next.frame.begun, frame.begun)

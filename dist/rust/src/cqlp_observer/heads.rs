@@ -2,7 +2,7 @@
 //! The frames of one direction, by their headers.
 
 use crate::cqlp_observer::header_front::{HeaderFront, first_nine, read_head};
-use crate::cqlp_observer::message::{Extent, Frame};
+use crate::cqlp_observer::message::{Extent, SeenFrame};
 use crate::cqlp_observer::opening::{Opening, opening_with};
 use crate::cqlp_observer::stage_record::StageRecord;
 use crate::cqlp_note::Header;
@@ -21,7 +21,7 @@ pub(crate) enum Stage {
     },
     /// In the body of this frame, of which so many bytes are still to come.
     Body {
-        frame: Frame,
+        frame: SeenFrame,
         left: u32,
     },
 }
@@ -34,7 +34,7 @@ pub enum Heard {
     /// Bytes of the body of the frame that began last.
     Body,
     /// That frame has ended: all its bytes came, but for those that lie in a gap where its extent is `Holed`.
-    Ends(Frame),
+    Ends(SeenFrame),
     /// Bytes that are no header of this direction, or lie where no frame is known to begin.
     Stray,
     /// All bytes were used, and nothing more is reported of them.
@@ -156,11 +156,11 @@ impl Heads {
 
     /// The frame passes that lies whole in the next bytes, which came at this time.
     #[inline(always)]
-    pub(crate) fn pass_frame(&mut self, header: Header, time: Option<u64>) -> Frame {
+    pub(crate) fn pass_frame(&mut self, header: Header, time: Option<u64>) -> SeenFrame {
         let at = self.position;
         self.count(9);
         self.count(header.length as u64);
-        Frame {
+        SeenFrame {
             header,
             at,
             begun: time,
@@ -186,7 +186,7 @@ impl Heads {
 
     /// So many bytes did not come, which passed at this time, where that is known. The frame that ends there, or past which no frame is known to begin,
     /// is reported, as `Holed`, unless all its bytes came before.
-    pub fn gap(&mut self, length: u64, time: Option<u64>) -> Option<Frame> {
+    pub fn gap(&mut self, length: u64, time: Option<u64>) -> Option<SeenFrame> {
         self.count(length);
         match self.stage.take() {
             Stage::Body { frame, left } if length < left as u64 => {
@@ -212,7 +212,7 @@ impl Heads {
     }
 
     /// No more bytes come. The frame of which some did is reported, as `Short`, unless all its bytes came.
-    pub fn end(&mut self) -> Option<Frame> {
+    pub fn end(&mut self) -> Option<SeenFrame> {
         match self.stage.take() {
             Stage::Body { frame, left } => Some(shortened(frame, left)),
             _ => None,
@@ -221,7 +221,7 @@ impl Heads {
 
     /// All that is left of the body came, the last of it at this time: its frame ends.
     #[inline(always)]
-    pub(crate) fn pass_whole(&mut self, time: Option<u64>) -> Option<Frame> {
+    pub(crate) fn pass_whole(&mut self, time: Option<u64>) -> Option<SeenFrame> {
         match self.stage.take() {
             Stage::Body { frame, left } => {
                 self.count(left as u64);
@@ -229,7 +229,7 @@ impl Heads {
                 Some(if left == 0 {
                     frame
                 } else {
-                    Frame {
+                    SeenFrame {
                         ended: time,
                         ..frame
                     }
@@ -313,7 +313,7 @@ impl Heads {
         last: Option<u64>,
     ) -> HeardStep {
         self.count(used as u64);
-        let frame = Frame {
+        let frame = SeenFrame {
             header,
             at,
             begun: first,
@@ -355,19 +355,19 @@ impl Heads {
 }
 
 /// The frame, of which some bytes did not come.
-fn holed(frame: Frame) -> Frame {
-    Frame {
+fn holed(frame: SeenFrame) -> SeenFrame {
+    SeenFrame {
         extent: Extent::Holed,
         ..frame
     }
 }
 
 /// The frame, of which the last bytes, if so many were left, passed at this time and did not come.
-fn passed_in(frame: Frame, left: u32, time: Option<u64>) -> Frame {
+fn passed_in(frame: SeenFrame, left: u32, time: Option<u64>) -> SeenFrame {
     if left == 0 {
         frame
     } else {
-        Frame {
+        SeenFrame {
             ended: time.or(frame.ended),
             ..holed(frame)
         }
@@ -375,11 +375,11 @@ fn passed_in(frame: Frame, left: u32, time: Option<u64>) -> Frame {
 }
 
 /// The frame, of which no more bytes come, if so many were left.
-fn shortened(frame: Frame, left: u32) -> Frame {
+fn shortened(frame: SeenFrame, left: u32) -> SeenFrame {
     if left == 0 {
         frame
     } else {
-        Frame {
+        SeenFrame {
             extent: Extent::Short,
             ..frame
         }

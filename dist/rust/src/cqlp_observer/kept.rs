@@ -1,9 +1,9 @@
 // Written by dist/erase from crates/cqlp_observer/src/kept.rt.
 //! What is kept of a message.
 
-use crate::kit_std::prelude::{Box, Vec};
+use crate::kit_std::prelude::{Box, KitBox, KitVec, Vec};
 use crate::cqlp_observer_facts::Facts;
-use crate::kit_std::alloc::{AllocError, Allocator, Global};
+use crate::kit_std::alloc::{AllocError};
 
 /// How many bytes of a message are kept at most.
 pub const LONGEST_FRONT: usize = 256;
@@ -12,21 +12,21 @@ pub const LONGEST_FRONT: usize = 256;
 const TEXT_OVERHEAD: usize = 128;
 
 /// What is kept of a message, as far as none of its bytes is missing before it. Without it a message has its header alone.
-pub struct Kept<A: Allocator = Global> {
-    text: Option<Box<KeptText<A>, A>>,
+pub struct Kept {
+    text: Option<Box<KeptText>>,
 }
 
 /// The first bytes of a message, and what it says.
-pub(crate) struct KeptText<A: Allocator> {
-    front: Front<A>,
+pub(crate) struct KeptText {
+    front: Front,
     facts: Facts,
 }
 
-impl<A: Allocator> Kept<A> {
+impl Kept {
     /// These first bytes, and what the message says.
     #[inline(always)]
-    pub(crate) fn new(alloc: A, front: Front<A>, facts: Facts) -> Result<Self, AllocError> {
-        let text = Box::new(alloc, KeptText { front, facts })?;
+    pub(crate) fn new(front: Front, facts: Facts) -> Result<Self, AllocError> {
+        let text = Box::kit_new(KeptText { front, facts })?;
         Ok(Kept { text: Some(text) })
     }
 
@@ -40,6 +40,7 @@ impl<A: Allocator> Kept<A> {
     /// a custom payload. Section 2.2 of `native_protocol_v4.spec`. Where the body is compressed, its first bytes as they are. None where they were
     /// dropped.
     #[inline(always)]
+    #[must_use]
     pub fn front(&self) -> &[u8] {
         match &self.text {
             Some(text) => text.front.as_slice(),
@@ -49,6 +50,7 @@ impl<A: Allocator> Kept<A> {
 
     /// What the message says; nothing where the body is compressed, or where that was dropped.
     #[inline(always)]
+    #[must_use]
     pub fn facts(&self) -> Facts {
         match &self.text {
             Some(text) => text.facts,
@@ -57,6 +59,8 @@ impl<A: Allocator> Kept<A> {
     }
 
     /// Whether the first bytes and what the message says were dropped, since there was no room for them.
+    #[cfg_attr(not(feature = "cli"), inline)]
+    #[must_use]
     pub fn is_text_dropped(&self) -> bool {
         self.text.is_none()
     }
@@ -72,16 +76,16 @@ impl<A: Allocator> Kept<A> {
 }
 
 /// The first bytes of a message, at most [`LONGEST_FRONT`].
-pub(crate) struct Front<A: Allocator> {
-    bytes: Vec<u8, A>,
+pub(crate) struct Front {
+    bytes: Vec<u8>,
 }
 
-impl<A: Allocator> Front<A> {
+impl Front {
     /// No byte, and no memory.
     #[inline(always)]
-    pub(crate) fn new(alloc: A) -> Self {
+    pub(crate) fn new() -> Self {
         Front {
-            bytes: Vec::new(alloc),
+            bytes: Vec::new(),
         }
     }
 
@@ -96,9 +100,10 @@ impl<A: Allocator> Front<A> {
     }
 
     /// Keeps as many of these bytes behind the others as there is room for. Takes memory for these alone.
+    #[cfg_attr(not(feature = "cli"), inline)]
     pub(crate) fn add(&mut self, input: &[u8]) -> Result<(), AllocError> {
         let moved = input.len().min(256 - self.bytes.len());
-        self.bytes.reserve_exact(moved)?;
-        self.bytes.extend_from_slice(&input[..moved])
+        self.bytes.kit_reserve_exact(moved)?;
+        self.bytes.kit_extend_from_slice(&input[..moved])
     }
 }

@@ -5,7 +5,7 @@ use crate::cqlp_note::{Header, Opcode};
 
 /// A frame of one direction, by its header. Section 2 of `native_protocol_v4.spec`.
 #[derive(Clone, Copy, Debug, PartialEq, Eq)]
-pub struct Frame {
+pub struct SeenFrame {
     /// The nine bytes before the body, which are enough to pair requests and responses: stream id, opcode and length.
     pub header: Header,
     /// Where its header begins: how many bytes, and bytes of gaps, of the direction came before it.
@@ -31,14 +31,14 @@ pub enum Extent {
 
 /// A frame, and what the observer keeps of its body.
 #[derive(Clone, Copy, Debug, PartialEq, Eq)]
-pub struct Message<T> {
+pub struct SeenMessage<T> {
     /// The frame of the message: its header, and where and when it was captured.
-    pub frame: Frame,
+    pub frame: SeenFrame,
     /// What the observer keeps of its body, as a query or the code of an error.
     pub kept: T,
 }
 
-impl<T> Message<T> {
+impl<T> SeenMessage<T> {
     /// The stream id, which is a request's and its response's.
     #[inline(always)]
     pub fn stream(&self) -> i16 {
@@ -68,7 +68,7 @@ impl<T> Message<T> {
     /// Whether it and the next under its stream id are a request and its response: a request and any response, or a response and a request
     /// whose first byte was captured no later than that of the response, where both times are known.
     #[inline(always)]
-    pub(crate) fn meets(&self, next: &Message<T>) -> bool {
+    pub(crate) fn meets(&self, next: &SeenMessage<T>) -> bool {
         if self.is_request() {
             !next.is_request()
         } else {

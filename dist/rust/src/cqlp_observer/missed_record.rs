@@ -1,22 +1,21 @@
 // Written by dist/erase from crates/cqlp_observer/src/missed_record.rt.
 //! What was missed of one connection, in fewer bytes.
 
-use crate::kit_std::prelude::{Box, Clone};
+use crate::kit_std::prelude::{Box, KitBox};
 use crate::cqlp_observer::missed::Missed;
 use crate::cqlp_observer::opening::Opening;
-use crate::kit_std::alloc::{AllocError, Allocator};
+use crate::kit_std::alloc::{AllocError};
 
 /// The greatest number that takes no memory.
 const MOST: u64 = 65_535;
 
 /// What was missed of one connection, as it is kept while that goes on: 16 bytes in place of 48, and memory once a number is past 65,535.
-pub(crate) struct MissedRecord<A: Allocator> {
-    alloc: A,
-    counts: Counts<A>,
+pub(crate) struct MissedRecord {
+    counts: Counts,
 }
 
 /// What was missed, in numbers.
-pub(crate) enum Counts<A: Allocator> {
+pub(crate) enum Counts {
     /// None is past 65,535.
     Few {
         overtaken: u16,
@@ -27,15 +26,15 @@ pub(crate) enum Counts<A: Allocator> {
         http: u16,
     },
     Many {
-        missed: Box<Missed, A>,
+        missed: Box<Missed>,
     },
 }
 
-impl<A: Allocator + Clone> MissedRecord<A> {
+impl MissedRecord {
     /// Nothing was missed. Takes no memory.
-    pub(crate) fn new(alloc: A) -> Self {
+    #[cfg_attr(not(feature = "cli"), inline)]
+    pub(crate) fn new() -> Self {
         MissedRecord {
-            alloc,
             counts: Counts::Few {
                 overtaken: 0,
                 texts: 0,
@@ -48,6 +47,7 @@ impl<A: Allocator + Clone> MissedRecord<A> {
     }
 
     /// The numbers.
+    #[cfg_attr(not(feature = "cli"), inline)]
     pub(crate) fn missed(&self) -> Missed {
         match &self.counts {
             Counts::Few {
@@ -70,6 +70,7 @@ impl<A: Allocator + Clone> MissedRecord<A> {
     }
 
     /// Counts a message that is reported alone since there is no room for it.
+    #[cfg_attr(not(feature = "cli"), inline)]
     pub(crate) fn count_overtaken(&mut self) -> Result<(), AllocError> {
         let mut missed = self.missed();
         missed.count_overtaken();
@@ -77,6 +78,7 @@ impl<A: Allocator + Clone> MissedRecord<A> {
     }
 
     /// Counts a message of which the header alone is kept.
+    #[cfg_attr(not(feature = "cli"), inline)]
     pub(crate) fn count_text(&mut self) -> Result<(), AllocError> {
         let mut missed = self.missed();
         missed.count_text();
@@ -84,6 +86,7 @@ impl<A: Allocator + Clone> MissedRecord<A> {
     }
 
     /// Counts a gap.
+    #[cfg_attr(not(feature = "cli"), inline)]
     pub(crate) fn count_gap(&mut self) -> Result<(), AllocError> {
         let mut missed = self.missed();
         missed.count_gap();
@@ -91,6 +94,7 @@ impl<A: Allocator + Clone> MissedRecord<A> {
     }
 
     /// Counts what a direction begins with, where that is no frame of version 4.
+    #[cfg_attr(not(feature = "cli"), inline)]
     pub(crate) fn count_opening(&mut self, opening: Opening) -> Result<(), AllocError> {
         match opening {
             Opening::Frames => Ok(()),
@@ -103,14 +107,16 @@ impl<A: Allocator + Clone> MissedRecord<A> {
     }
 
     /// These are the numbers.
+    #[cfg_attr(not(feature = "cli"), inline)]
     fn set(&mut self, missed: Missed) -> Result<(), AllocError> {
-        self.counts = counts_of(self.alloc.clone()?, missed)?;
+        self.counts = counts_of(missed)?;
         Ok(())
     }
 }
 
 /// The numbers, in a box if one is past 65,535.
-fn counts_of<A: Allocator>(alloc: A, missed: Missed) -> Result<Counts<A>, AllocError> {
+#[cfg_attr(not(feature = "cli"), inline)]
+fn counts_of(missed: Missed) -> Result<Counts, AllocError> {
     let Missed {
         overtaken,
         texts,
@@ -136,7 +142,7 @@ fn counts_of<A: Allocator>(alloc: A, missed: Missed) -> Result<Counts<A>, AllocE
         })
     } else {
         Ok(Counts::Many {
-            missed: Box::new(alloc, missed)?,
+            missed: Box::kit_new(missed)?,
         })
     }
 }

@@ -21,7 +21,7 @@ mod watch;
 pub use crate::cqlp_observer_facts::Facts;
 pub use heads::{Heads, Heard, HeardStep};
 pub use kept::{Kept, LONGEST_FRONT};
-pub use message::{Extent, Frame, Message};
+pub use message::{Extent, SeenFrame, SeenMessage};
 pub use missed::Missed;
 pub use opening::Opening;
 pub use paired::Paired;

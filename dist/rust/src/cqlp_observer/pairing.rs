@@ -1,11 +1,10 @@
 // Written by dist/erase from crates/cqlp_observer/src/pairing.rt.
 //! Which requests wait for their responses, and which responses for their requests.
 
-use crate::kit_std::prelude::{Clone};
 use crate::cqlp_observer::frame_record::MessageRecord;
-use crate::cqlp_observer::message::Message;
+use crate::cqlp_observer::message::SeenMessage;
 use crate::cqlp_observer::paired::Paired;
-use crate::kit_std::alloc::{AllocError, Allocator, Global};
+use crate::kit_std::alloc::{AllocError};
 use crate::kit_std::collections::VecDeque;
 
 /// The messages of one connection that wait for the other of their exchange: requests for their responses, and responses that came before
@@ -15,9 +14,9 @@ use crate::kit_std::collections::VecDeque;
 /// its stream id, or the one before it under that id, if that still waits and the request was begun no later by the capture's times. It has no
 /// limit of its own: who calls it says of each message whether there is room for one more. It has memory for at most four times as many messages as
 /// wait, and none where none does.
-pub struct Pairing<T, A: Allocator = Global> {
+pub struct Pairing<T> {
     /// The messages that wait, the one under the least stream id first.
-    waiting: VecDeque<MessageRecord<T>, A>,
+    waiting: VecDeque<MessageRecord<T>>,
 }
 
 /// What becomes of the next message.
@@ -33,25 +32,27 @@ pub(crate) enum Fate {
     IsOvertaken,
 }
 
-impl<T, A: Allocator + Clone> Pairing<T, A> {
+impl<T> Pairing<T> {
     /// No message waits. Takes no memory.
     ///
     /// # Errors
     ///
     /// None: callers need not know that.
-    pub fn new(alloc: A) -> Result<Self, AllocError> {
+    pub fn new() -> Result<Self, AllocError> {
         Ok(Pairing {
-            waiting: VecDeque::new(alloc),
+            waiting: VecDeque::new(),
         })
     }
 
     /// How many messages wait.
     #[inline(always)]
+    #[must_use]
     pub fn len(&self) -> usize {
         self.waiting.len()
     }
 
     /// Whether none waits.
+    #[must_use]
     pub fn is_empty(&self) -> bool {
         self.waiting.len() == 0
     }
@@ -72,7 +73,8 @@ impl<T, A: Allocator + Clone> Pairing<T, A> {
     }
 
     /// Whether `take` reports this message alone for want of room: none waits under its stream id, and there is no room for one more.
-    pub fn overtakes(&self, message: &Message<T>, has_room: bool) -> bool {
+    #[must_use]
+    pub fn overtakes(&self, message: &SeenMessage<T>, has_room: bool) -> bool {
         let place = self.place(message.stream());
         is_overtaken(fate_of(self.at(place), message, has_room))
     }
@@ -88,7 +90,7 @@ impl<T, A: Allocator + Clone> Pairing<T, A> {
     /// Memory that is refused: then the message is lost, and no other waits under its id.
     pub fn take(
         &mut self,
-        message: Message<T>,
+        message: SeenMessage<T>,
         has_room: bool,
     ) -> Result<Option<Paired<T>>, AllocError> {
         let place = self.place(message.stream());
@@ -100,7 +102,7 @@ impl<T, A: Allocator + Clone> Pairing<T, A> {
     pub(crate) fn take_at(
         &mut self,
         place: Result<usize, usize>,
-        message: Message<T>,
+        message: SeenMessage<T>,
         has_room: bool,
     ) -> Result<Option<Paired<T>>, AllocError> {
         if message.is_event() {
@@ -126,7 +128,7 @@ impl<T, A: Allocator + Clone> Pairing<T, A> {
 
     /// A message comes after the one at a place, which waited under its stream id.
     #[inline(always)]
-    fn meet(&mut self, at: usize, second: Message<T>) -> Option<Paired<T>> {
+    fn meet(&mut self, at: usize, second: SeenMessage<T>) -> Option<Paired<T>> {
         if self.waiting[at].meets(&second) {
             let first = self.waiting.remove(at)?;
             self.shrink();
@@ -148,8 +150,8 @@ impl<T, A: Allocator + Clone> Pairing<T, A> {
 
 /// Where the message under a stream id waits, or where it would.
 #[inline(always)]
-fn place_in<T, A: Allocator>(
-    waiting: &VecDeque<MessageRecord<T>, A>,
+fn place_in<T>(
+    waiting: &VecDeque<MessageRecord<T>>,
     id: i16,
 ) -> Result<usize, usize> {
     waiting.binary_search_by_key(&id, |message| message.stream())
@@ -159,7 +161,7 @@ fn place_in<T, A: Allocator>(
 #[inline(always)]
 pub(crate) fn fate_of<T>(
     first: Option<&MessageRecord<T>>,
-    message: &Message<T>,
+    message: &SeenMessage<T>,
     has_room: bool,
 ) -> Fate {
     if message.is_event() {
@@ -173,7 +175,7 @@ pub(crate) fn fate_of<T>(
 
 /// What becomes of a message after one that waits under its stream id.
 #[inline(always)]
-fn fate_after<T>(first: &MessageRecord<T>, second: &Message<T>) -> Fate {
+fn fate_after<T>(first: &MessageRecord<T>, second: &SeenMessage<T>) -> Fate {
     if first.meets(second) {
         Fate::Meets
     } else {

@@ -1,28 +1,27 @@
 // Written by dist/erase from crates/cqlp_observer/src/side.rt.
 //! One side of a connection.
 
-use crate::kit_std::prelude::{Box, Clone};
+use crate::kit_std::prelude::{Box, KitBox};
 use crate::cqlp_observer::heads::{Heads, Heard};
 use crate::cqlp_observer::kept::{Front, Kept};
-use crate::cqlp_observer::message::{Frame, Message};
+use crate::cqlp_observer::message::{SeenFrame, SeenMessage};
 use crate::cqlp_observer::opening::Opening;
 use crate::cqlp_note::Header;
 use crate::cqlp_observer_facts::FactsReader;
-use crate::kit_std::alloc::{AllocError, Allocator};
+use crate::kit_std::alloc::{AllocError};
 use core::mem;
 
 /// What one side sent. It takes memory while a message's body passes of which not all bytes came in one piece.
-pub(crate) struct Side<A: Allocator> {
-    alloc: A,
+pub(crate) struct Side {
     heads: Heads,
     /// What is kept of the message that passes; none between two messages, and where there was no room.
-    present: Option<Box<Present<A>, A>>,
+    present: Option<Box<Present>>,
 }
 
 /// A message whose body passes, as far as none of its bytes is missing.
-pub(crate) struct Present<A: Allocator> {
+pub(crate) struct Present {
     /// Its first bytes.
-    front: Front<A>,
+    front: Front,
     /// What it says.
     reader: FactsReader,
     /// Whether none of its bytes is missing so far.
@@ -30,21 +29,21 @@ pub(crate) struct Present<A: Allocator> {
 }
 
 /// What the first so many bytes of a piece say.
-pub(crate) struct SideStep<A: Allocator> {
+pub(crate) struct SideStep {
     pub(crate) used: usize,
     /// Whether nothing more is said by the piece.
     pub(crate) is_done: bool,
-    pub(crate) message: Option<Message<Kept<A>>>,
+    pub(crate) message: Option<SeenMessage<Kept>>,
     /// Whether a message begins of which there is no room to keep more than the header.
     pub(crate) is_bare: bool,
 }
 
-impl<A: Allocator + Clone> Present<A> {
+impl Present {
     /// A message with this header, of whose body nothing came.
     #[inline(always)]
-    fn new(alloc: A, header: &Header) -> Self {
+    fn new(header: &Header) -> Self {
         Present {
-            front: Front::new(alloc),
+            front: Front::new(),
             reader: FactsReader::new(header),
             is_sound: true,
         }
@@ -61,33 +60,35 @@ impl<A: Allocator + Clone> Present<A> {
     }
 
     /// Some of its bytes are missing.
+    #[cfg_attr(not(feature = "cli"), inline)]
     fn break_off(&mut self) {
         self.is_sound = false;
     }
 
     /// What is kept of it.
     #[inline(always)]
-    fn into_kept(self, alloc: A) -> Result<Kept<A>, AllocError> {
+    fn into_kept(self) -> Result<Kept, AllocError> {
         let Present {
             front,
             reader,
             is_sound: _,
         } = self;
-        Kept::new(alloc, front, reader.facts())
+        Kept::new(front, reader.facts())
     }
 }
 
-impl<A: Allocator + Clone> Side<A> {
+impl Side {
     /// A side that sent nothing yet: that of the responses, or that of the requests. Its first byte begins a frame, where `from_start`.
-    pub(crate) fn new(alloc: A, responses: bool, from_start: bool) -> Self {
+    #[cfg_attr(not(feature = "cli"), inline)]
+    pub(crate) fn new(responses: bool, from_start: bool) -> Self {
         Side {
-            alloc,
             heads: Heads::new(responses, from_start),
             present: None,
         }
     }
 
     /// The side begins anew.
+    #[cfg_attr(not(feature = "cli"), inline)]
     pub(crate) fn restart(&mut self, responses: bool, from_start: bool) {
         self.heads = Heads::new(responses, from_start);
         self.present = None;
@@ -113,13 +114,14 @@ impl<A: Allocator + Clone> Side<A> {
 
     /// What the next bytes say that came at this time. Of a frame that begins and does not end in the piece more than the header is kept, where
     /// `has_room`.
+    #[cfg_attr(not(feature = "cli"), inline)]
     pub(crate) fn read(
         &mut self,
         piece: &[u8],
         time: Option<u64>,
         begins: bool,
         has_room: bool,
-    ) -> Result<SideStep<A>, AllocError> {
+    ) -> Result<SideStep, AllocError> {
         let step = self.heads.take(piece, time, begins);
         let used = step.used;
         match step.heard {
@@ -147,20 +149,21 @@ impl<A: Allocator + Clone> Side<A> {
         header: Header,
         piece: &[u8],
         time: Option<u64>,
-    ) -> Result<Message<Kept<A>>, AllocError> {
+    ) -> Result<SeenMessage<Kept>, AllocError> {
         self.present = None;
         let end = 9 + header.length as usize;
         let kept = self.kept_of_whole(header, &piece[9..end])?;
         let frame = self.heads.pass_frame(header, time);
-        Ok(Message { frame, kept })
+        Ok(SeenMessage { frame, kept })
     }
 
     /// So many bytes did not come, which passed at this time, where that is known: the frame that ends there.
+    #[cfg_attr(not(feature = "cli"), inline)]
     pub(crate) fn gap(
         &mut self,
         length: u64,
         time: Option<u64>,
-    ) -> Result<Option<Message<Kept<A>>>, AllocError> {
+    ) -> Result<Option<SeenMessage<Kept>>, AllocError> {
         self.break_off();
         match self.heads.gap(length, time) {
             Some(frame) => Ok(Some(self.finish(frame)?)),
@@ -169,7 +172,8 @@ impl<A: Allocator + Clone> Side<A> {
     }
 
     /// No more bytes come: the frame of which some did.
-    pub(crate) fn end(&mut self) -> Result<Option<Message<Kept<A>>>, AllocError> {
+    #[cfg_attr(not(feature = "cli"), inline)]
+    pub(crate) fn end(&mut self) -> Result<Option<SeenMessage<Kept>>, AllocError> {
         match self.heads.end() {
             Some(frame) => Ok(Some(self.finish(frame)?)),
             None => Ok(None),
@@ -185,7 +189,7 @@ impl<A: Allocator + Clone> Side<A> {
         time: Option<u64>,
         piece: &[u8],
         has_room: bool,
-    ) -> Result<SideStep<A>, AllocError> {
+    ) -> Result<SideStep, AllocError> {
         let length = header.length as usize;
         if length <= piece.len() - used {
             let end = used + length;
@@ -195,8 +199,8 @@ impl<A: Allocator + Clone> Side<A> {
             self.present = None;
             return Ok(SideStep::bare(used));
         }
-        let present = Present::new(self.alloc.clone()?, header);
-        self.present = Some(Box::new(self.alloc.clone()?, present)?);
+        let present = Present::new(header);
+        self.present = Some(Box::kit_new(present)?);
         Ok(SideStep::nothing(used))
     }
 
@@ -208,11 +212,11 @@ impl<A: Allocator + Clone> Side<A> {
         end: usize,
         time: Option<u64>,
         body: &[u8],
-    ) -> Result<SideStep<A>, AllocError> {
+    ) -> Result<SideStep, AllocError> {
         self.present = None;
         let kept = self.kept_of_whole(*header, body)?;
         let message = match self.heads.pass_whole(time) {
-            Some(frame) => Some(Message { frame, kept }),
+            Some(frame) => Some(SeenMessage { frame, kept }),
             None => None,
         };
         Ok(SideStep::of(end, message))
@@ -220,10 +224,10 @@ impl<A: Allocator + Clone> Side<A> {
 
     /// What is kept of a message with this header and body.
     #[inline(never)]
-    fn kept_of_whole(&self, header: Header, body: &[u8]) -> Result<Kept<A>, AllocError> {
-        let mut present = Present::new(self.alloc.clone()?, &header);
+    fn kept_of_whole(&self, header: Header, body: &[u8]) -> Result<Kept, AllocError> {
+        let mut present = Present::new(&header);
         present.keep(body)?;
-        present.into_kept(self.alloc.clone()?)
+        present.into_kept()
     }
 
     /// Keeps bytes of a body.
@@ -236,6 +240,7 @@ impl<A: Allocator + Clone> Side<A> {
     }
 
     /// Some bytes are missing of the message that passes, if one does.
+    #[cfg_attr(not(feature = "cli"), inline)]
     fn break_off(&mut self) {
         if let Some(present) = &mut self.present {
             present.break_off();
@@ -243,16 +248,17 @@ impl<A: Allocator + Clone> Side<A> {
     }
 
     /// A frame ends, with what was kept of it.
-    fn finish(&mut self, frame: Frame) -> Result<Message<Kept<A>>, AllocError> {
+    #[cfg_attr(not(feature = "cli"), inline)]
+    fn finish(&mut self, frame: SeenFrame) -> Result<SeenMessage<Kept>, AllocError> {
         let kept = match mem::replace(&mut self.present, None) {
-            Some(present) => Box::into_inner(present).into_kept(self.alloc.clone()?)?,
+            Some(present) => Box::kit_into_inner(present).into_kept()?,
             None => Kept::bare(),
         };
-        Ok(Message { frame, kept })
+        Ok(SeenMessage { frame, kept })
     }
 }
 
-impl<A: Allocator> SideStep<A> {
+impl SideStep {
     /// No message in so many bytes.
     #[inline(always)]
     fn nothing(used: usize) -> Self {
@@ -288,7 +294,7 @@ impl<A: Allocator> SideStep<A> {
 
     /// A message that ended after so many bytes, if one did.
     #[inline(always)]
-    fn of(used: usize, message: Option<Message<Kept<A>>>) -> Self {
+    fn of(used: usize, message: Option<SeenMessage<Kept>>) -> Self {
         SideStep {
             used,
             is_done: false,

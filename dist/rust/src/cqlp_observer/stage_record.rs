@@ -4,7 +4,7 @@
 use crate::cqlp_observer::frame_record::{parts_of, time_of};
 use crate::cqlp_observer::header_front::HeaderFront;
 use crate::cqlp_observer::heads::Stage;
-use crate::cqlp_observer::message::{Extent, Frame};
+use crate::cqlp_observer::message::{Extent, SeenFrame};
 use crate::cqlp_note::{Header, Opcode};
 use core::mem;
 
@@ -124,7 +124,7 @@ fn stage_of(parts: StageParts) -> Stage {
 
 impl PassingFrame {
     #[inline(always)]
-    fn new(frame: &Frame, left: u32) -> Self {
+    fn new(frame: &SeenFrame, left: u32) -> Self {
         let (is_begun_known, begun) = parts_of(frame.begun);
         let (is_ended_known, ended) = parts_of(frame.ended);
         let Header {
@@ -151,8 +151,8 @@ impl PassingFrame {
     }
 
     #[inline(always)]
-    fn frame(&self) -> Frame {
-        Frame {
+    fn frame(&self) -> SeenFrame {
+        SeenFrame {
             header: Header {
                 response: self.response,
                 flags: self.flags,

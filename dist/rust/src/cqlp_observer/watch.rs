@@ -1,10 +1,9 @@
 // Written by dist/erase from crates/cqlp_observer/src/watch.rt.
 //! Both sides of one connection.
 
-use crate::kit_std::prelude::{Clone};
 use crate::cqlp_observer::frame_record::MessageRecord;
 use crate::cqlp_observer::kept::Kept;
-use crate::cqlp_observer::message::Message;
+use crate::cqlp_observer::message::SeenMessage;
 use crate::cqlp_observer::missed::Missed;
 use crate::cqlp_observer::missed_record::MissedRecord;
 use crate::cqlp_observer::opening::Opening;
@@ -13,7 +12,7 @@ use crate::cqlp_observer::pairing::{Fate, Pairing, fate_of};
 use crate::cqlp_observer::room::WatchRoom;
 use crate::cqlp_observer::side::{Side, SideStep};
 use crate::cqlp_note::Header;
-use crate::kit_std::alloc::{AllocError, Allocator, Global};
+use crate::kit_std::alloc::{AllocError};
 
 /// What both sides of one connection say to each other, out of the bytes and gaps of its two directions, as they come.
 ///
@@ -23,17 +22,17 @@ use crate::kit_std::alloc::{AllocError, Allocator, Global};
 ///
 /// It has no limit of its own: each call is given how much may wait ([`WatchRoom`]). Memory is taken for what waits and for the texts of the two messages
 /// that pass, and given back with them; and once more than 65,535 of one kind were missed. After a call that was refused memory it is not to be used again.
-pub struct Watch<A: Allocator = Global> {
-    requests: Side<A>,
-    responses: Side<A>,
-    pairing: Pairing<Kept<A>, A>,
+pub struct Watch {
+    requests: Side,
+    responses: Side,
+    pairing: Pairing<Kept>,
     /// How many bytes of room the texts take of the messages that wait and of those that pass.
     text: usize,
-    missed: MissedRecord<A>,
+    missed: MissedRecord,
 }
 
 /// What the first so many bytes of a piece report.
-pub struct WatchStep<A: Allocator = Global> {
+pub struct WatchStep {
     /// How many bytes of the piece were used.
     pub used: usize,
     /// Whether nothing more is reported of the piece, all of which was used.
@@ -41,27 +40,29 @@ pub struct WatchStep<A: Allocator = Global> {
     /// What the direction begins with, where these are its first bytes; else `Frames`.
     pub opening: Opening,
     /// The exchange, the message without a partner or the event that these bytes complete, if they complete one.
-    pub reported: Option<Paired<Kept<A>>>,
+    pub reported: Option<Paired<Kept>>,
 }
 
-impl<A: Allocator + Clone> Watch<A> {
+impl Watch {
     /// A connection of which nothing was seen. Takes no memory beside what clones of `alloc` do.
     ///
     /// # Errors
     ///
     /// An allocator that cannot be cloned.
-    pub fn new(alloc: A) -> Result<Self, AllocError> {
+    #[cfg_attr(not(feature = "cli"), inline)]
+    pub fn new() -> Result<Self, AllocError> {
         Ok(Watch {
-            requests: Side::new(alloc.clone()?, false, false),
-            responses: Side::new(alloc.clone()?, true, false),
-            pairing: Pairing::new(alloc.clone()?)?,
+            requests: Side::new(false, false),
+            responses: Side::new(true, false),
+            pairing: Pairing::new()?,
             text: 0,
-            missed: MissedRecord::new(alloc),
+            missed: MissedRecord::new(),
         })
     }
 
     /// A direction begins, that of the responses or that of the requests. Its first byte is that of a frame, where `from_start`; else the first frame
     /// is sought where a segment begins with a header.
+    #[cfg_attr(not(feature = "cli"), inline)]
     pub fn begin(&mut self, responses: bool, from_start: bool) {
         let was_keeping = self.is_keeping(responses);
         if responses {
@@ -77,6 +78,7 @@ impl<A: Allocator + Clone> Watch<A> {
     /// # Errors
     ///
     /// Memory that is refused.
+    #[cfg_attr(not(feature = "cli"), inline)]
     pub fn take(
         &mut self,
         responses: bool,
@@ -84,7 +86,7 @@ impl<A: Allocator + Clone> Watch<A> {
         time: Option<u64>,
         begins: bool,
         room: WatchRoom,
-    ) -> Result<WatchStep<A>, AllocError> {
+    ) -> Result<WatchStep, AllocError> {
         if self.is_done(responses, piece) {
             return Ok(WatchStep::done());
         }
@@ -98,13 +100,14 @@ impl<A: Allocator + Clone> Watch<A> {
     /// # Errors
     ///
     /// Memory that is refused.
+    #[cfg_attr(not(feature = "cli"), inline)]
     pub fn gap(
         &mut self,
         responses: bool,
         length: u64,
         time: Option<u64>,
         room: WatchRoom,
-    ) -> Result<Option<Paired<Kept<A>>>, AllocError> {
+    ) -> Result<Option<Paired<Kept>>, AllocError> {
         self.missed.count_gap()?;
         let was_keeping = self.is_keeping(responses);
         let message = if responses {
@@ -121,11 +124,12 @@ impl<A: Allocator + Clone> Watch<A> {
     /// # Errors
     ///
     /// Memory that is refused.
+    #[cfg_attr(not(feature = "cli"), inline)]
     pub fn end(
         &mut self,
         responses: bool,
         room: WatchRoom,
-    ) -> Result<Option<Paired<Kept<A>>>, AllocError> {
+    ) -> Result<Option<Paired<Kept>>, AllocError> {
         let was_keeping = self.is_keeping(responses);
         let message = if responses {
             self.responses.end()?
@@ -137,23 +141,30 @@ impl<A: Allocator + Clone> Watch<A> {
     }
 
     /// The connection is over: the message under the least stream id, which waits no more. `None` once none waits.
-    pub fn finish(&mut self) -> Option<Paired<Kept<A>>> {
+    #[cfg_attr(not(feature = "cli"), inline)]
+    pub fn finish(&mut self) -> Option<Paired<Kept>> {
         let reported = self.pairing.end();
         self.text = self.text.saturating_sub(reported_text(&reported));
         reported
     }
 
     /// How many messages wait.
+    #[cfg_attr(not(feature = "cli"), inline)]
+    #[must_use]
     pub fn waiting(&self) -> usize {
         self.pairing.len()
     }
 
     /// How many bytes of room the texts take of the messages that wait and of those that pass.
+    #[cfg_attr(not(feature = "cli"), inline)]
+    #[must_use]
     pub fn text(&self) -> usize {
         self.text
     }
 
     /// What was missed so far, since it was made.
+    #[cfg_attr(not(feature = "cli"), inline)]
+    #[must_use]
     pub fn missed(&self) -> Missed {
         self.missed.missed()
     }
@@ -168,7 +179,7 @@ impl<A: Allocator + Clone> Watch<A> {
         begins: bool,
         room: WatchRoom,
         opening: Opening,
-    ) -> Result<WatchStep<A>, AllocError> {
+    ) -> Result<WatchStep, AllocError> {
         match self.whole_head(responses, piece) {
             Some(header) => Ok(WatchStep {
                 used: 9 + header.length as usize,
@@ -190,7 +201,7 @@ impl<A: Allocator + Clone> Watch<A> {
         begins: bool,
         room: WatchRoom,
         opening: Opening,
-    ) -> Result<WatchStep<A>, AllocError> {
+    ) -> Result<WatchStep, AllocError> {
         let step = self.read(responses, piece, time, begins, room)?;
         Ok(WatchStep {
             used: step.used,
@@ -219,7 +230,7 @@ impl<A: Allocator + Clone> Watch<A> {
         piece: &[u8],
         time: Option<u64>,
         room: WatchRoom,
-    ) -> Result<Option<Paired<Kept<A>>>, AllocError> {
+    ) -> Result<Option<Paired<Kept>>, AllocError> {
         let was_keeping = self.is_keeping(responses);
         let message = if responses {
             self.responses.take_frame(header, piece, time)?
@@ -281,7 +292,7 @@ impl<A: Allocator + Clone> Watch<A> {
         time: Option<u64>,
         begins: bool,
         room: WatchRoom,
-    ) -> Result<SideStep<A>, AllocError> {
+    ) -> Result<SideStep, AllocError> {
         let has_room = room.text.saturating_sub(self.text) >= PRESENT_ROOM;
         let was_keeping = self.is_keeping(responses);
         let step = if responses {
@@ -300,9 +311,9 @@ impl<A: Allocator + Clone> Watch<A> {
     #[inline(never)]
     fn pair(
         &mut self,
-        message: Option<Message<Kept<A>>>,
+        message: Option<SeenMessage<Kept>>,
         room: WatchRoom,
-    ) -> Result<Option<Paired<Kept<A>>>, AllocError> {
+    ) -> Result<Option<Paired<Kept>>, AllocError> {
         match message {
             Some(message) => self.pair_one(message, room),
             None => Ok(None),
@@ -313,9 +324,9 @@ impl<A: Allocator + Clone> Watch<A> {
     #[inline(always)]
     fn pair_one(
         &mut self,
-        message: Message<Kept<A>>,
+        message: SeenMessage<Kept>,
         room: WatchRoom,
-    ) -> Result<Option<Paired<Kept<A>>>, AllocError> {
+    ) -> Result<Option<Paired<Kept>>, AllocError> {
         let has_room = self.pairing.len() < room.messages;
         let place = self.pairing.place(message.stream());
         let message = self.settle(place, message, has_room, room)?;
@@ -327,10 +338,10 @@ impl<A: Allocator + Clone> Watch<A> {
     fn settle(
         &mut self,
         place: Result<usize, usize>,
-        message: Message<Kept<A>>,
+        message: SeenMessage<Kept>,
         has_room: bool,
         room: WatchRoom,
-    ) -> Result<Message<Kept<A>>, AllocError> {
+    ) -> Result<SeenMessage<Kept>, AllocError> {
         let first = self.pairing.at(place);
         let beside = self.text.saturating_sub(text_in(first));
         match fate_of(first, &message, has_room) {
@@ -351,10 +362,10 @@ impl<A: Allocator + Clone> Watch<A> {
     #[inline]
     fn fit(
         &mut self,
-        message: Message<Kept<A>>,
+        message: SeenMessage<Kept>,
         beside: usize,
         room: WatchRoom,
-    ) -> Result<Message<Kept<A>>, AllocError> {
+    ) -> Result<SeenMessage<Kept>, AllocError> {
         let count = message.kept.cost();
         if count <= room.text.saturating_sub(beside) {
             self.text = beside + count;
@@ -362,7 +373,7 @@ impl<A: Allocator + Clone> Watch<A> {
         } else {
             self.text = beside;
             self.missed.count_text()?;
-            Ok(Message {
+            Ok(SeenMessage {
                 frame: message.frame,
                 kept: Kept::bare(),
             })
@@ -370,7 +381,7 @@ impl<A: Allocator + Clone> Watch<A> {
     }
 }
 
-impl<A: Allocator> WatchStep<A> {
+impl WatchStep {
     /// Nothing is reported of no bytes.
     #[inline(always)]
     fn done() -> Self {
@@ -403,7 +414,8 @@ fn recounted(room: usize, text: usize, was_keeping: bool, is_keeping: bool) -> u
 }
 
 /// How much room the text of a message takes that waits, if one does.
-fn text_in<A: Allocator>(message: Option<&MessageRecord<Kept<A>>>) -> usize {
+#[cfg_attr(not(feature = "cli"), inline)]
+fn text_in(message: Option<&MessageRecord<Kept>>) -> usize {
     match message {
         Some(message) => message.kept().cost(),
         None => 0,
@@ -411,7 +423,8 @@ fn text_in<A: Allocator>(message: Option<&MessageRecord<Kept<A>>>) -> usize {
 }
 
 /// How much room the text of a message took that is reported alone.
-fn reported_text<A: Allocator>(reported: &Option<Paired<Kept<A>>>) -> usize {
+#[cfg_attr(not(feature = "cli"), inline)]
+fn reported_text(reported: &Option<Paired<Kept>>) -> usize {
     match reported {
         Some(Paired::Unanswered { request }) => request.kept.cost(),
         Some(Paired::Unasked { response }) => response.kept.cost(),

@@ -1,7 +1,7 @@
 // Written by dist/erase from crates/cqlp_options/src/capture.rt.
 //! What is asked for with a capture.
 
-use crate::kit_host::prelude::{AllocGlobal, Vec};
+use crate::kit_host::prelude::{KitVec, Vec};
 use crate::cqlp_options::bad_value::{BadValue, NoLine};
 use crate::cqlp_options::end::{AskedEnd, end};
 use crate::cqlp_options::kind::{AskedKind, kind};
@@ -10,7 +10,6 @@ use crate::cqlp_options::matched::{flag, long_number, number, path};
 use crate::cqlp_options::time::{AskedTime, time};
 use crate::clap::ArgMatches;
 use crate::cqlp_note::Opcode;
-use crate::kit_std::alloc::Global;
 
 /// How many ports may be named.
 pub const MOST_PORTS: usize = 16;
@@ -314,7 +313,6 @@ impl<'a> CaptureOptions<'a> {
     /// What the words were matched to, if the limits are in their ranges, there are not too many ports, what is asked of exchanges is there, and
     /// standard input goes alone.
     pub(crate) fn matched(
-        alloc: Global,
         matches: &ArgMatches<'a>,
     ) -> Result<CaptureOptions<'a>, NoLine> {
         let (file, others) = files_of(matches)?;
@@ -325,8 +323,8 @@ impl<'a> CaptureOptions<'a> {
         let task = CaptureTask::matched(matches)?;
         let limits = CaptureLimits::matched(matches).ok_or(BadValue::Range)?;
         let ports = ports_of(matches).ok_or(BadValue::Range)?;
-        let mut more = Vec::new(alloc);
-        more.extend_from_slice(others)?;
+        let mut more = Vec::new();
+        more.kit_extend_from_slice(others)?;
         Ok(CaptureOptions {
             task,
             limits,

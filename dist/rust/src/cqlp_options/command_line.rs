@@ -1,7 +1,6 @@
 // Written by dist/erase from crates/cqlp_options/src/command_line.rt.
 //! Command lines.
 
-use crate::kit_host::prelude::{AllocGlobal};
 use crate::cqlp_options::bad_value::{BadValue, NoLine};
 use crate::cqlp_options::capture::CaptureOptions;
 use crate::cqlp_options::matched::short_number;
@@ -13,7 +12,7 @@ use crate::cqlp_options::reported::report_all;
 use crate::clap::error::ErrorKind;
 use crate::clap::{ArgMatches, Command, Error};
 use crate::cqlp_note::LimitRange;
-use crate::kit_std::alloc::{AllocError, Global};
+use crate::kit_std::alloc::{AllocError};
 use crate::kit_host::text::AsStr;
 
 /// How many queries a conversation may have.
@@ -37,10 +36,10 @@ pub enum CommandLine<'a> {
 impl<'a> CommandLine<'a> {
     /// Reads the words after the program's name. What is no command line of the program, and a request for help or the
     /// version, is an error, whose text says what is wrong or what was asked for.
-    pub fn parse(alloc: Global, words: &'a [&'a str]) -> Result<CommandLine<'a>, NoTask> {
-        match parsed(alloc, words) {
+    pub fn parse(words: &'a [&'a str]) -> Result<CommandLine<'a>, NoTask> {
+        match parsed(words) {
             Ok(line) => Ok(line),
-            Err(error) => Err(no_task(alloc, words, &error)),
+            Err(error) => Err(no_task(words, &error)),
         }
     }
 
@@ -66,20 +65,20 @@ impl<'a> CommandLine<'a> {
 
 /// What there is in place of a command line. The parser reports words as they are, so for its text they are read once
 /// more, each in one line.
-fn no_task(alloc: Global, words: &[&str], error: &Error) -> NoTask {
-    let Ok(texts) = report_all(alloc, words) else {
+fn no_task(words: &[&str], error: &Error) -> NoTask {
+    let Ok(texts) = report_all(words) else {
         return NoTask::NoMemory;
     };
-    match parsed(alloc, &texts) {
-        Ok(_) => no_task_of(alloc, error),
-        Err(error) => no_task_of(alloc, &error),
+    match parsed(&texts) {
+        Ok(_) => no_task_of(error),
+        Err(error) => no_task_of(&error),
     }
 }
 
-fn parsed<'a, S: AsStr>(alloc: Global, words: &'a [S]) -> Result<CommandLine<'a>, Error> {
-    let mut program = program(alloc)?;
+fn parsed<'a, S: AsStr>(words: &'a [S]) -> Result<CommandLine<'a>, Error> {
+    let mut program = program()?;
     let matches = program.try_get_matches_from_mut(words)?;
-    match line_of(alloc, &matches) {
+    match line_of(&matches) {
         Ok(line) => Ok(line),
         Err(NoLine::BadValue(bad)) => Err(bad_value(&mut program, bad)),
         Err(NoLine::NoMemory) => Err(Error::from(AllocError)),
@@ -94,18 +93,18 @@ fn bad_value(program: &mut Command<'_>, bad: BadValue) -> Error {
 }
 
 /// What the words of a command line were matched to, if its values are good.
-fn line_of<'a>(alloc: Global, matches: &ArgMatches<'a>) -> Result<CommandLine<'a>, NoLine> {
+fn line_of<'a>(matches: &ArgMatches<'a>) -> Result<CommandLine<'a>, NoLine> {
     match matches.subcommand().ok_or(BadValue::Range)? {
         ("loop", matches) => {
             let queries = queries_of(matches).ok_or(BadValue::Range)?;
             Ok(CommandLine::Loop { queries })
         }
         ("capture", matches) => {
-            let options = CaptureOptions::matched(alloc, matches)?;
+            let options = CaptureOptions::matched(matches)?;
             Ok(CommandLine::Capture(options))
         }
         ("merge", matches) => {
-            let options = MergeOptions::matched(alloc, matches)?;
+            let options = MergeOptions::matched(matches)?;
             Ok(CommandLine::Merge(options))
         }
         (name, matches) => {

@@ -1,12 +1,11 @@
 // Written by dist/erase from crates/cqlp_options/src/merge.rt.
 //! What is asked for with summaries.
 
-use crate::kit_host::prelude::{AllocGlobal, Vec};
+use crate::kit_host::prelude::{KitVec, Vec};
 use crate::cqlp_options::bad_value::NoLine;
 use crate::cqlp_options::capture::files_of;
 use crate::cqlp_options::matched::flag;
 use crate::clap::ArgMatches;
-use crate::kit_std::alloc::Global;
 
 /// How the sum of summaries is written.
 #[derive(Clone, Copy)]
@@ -39,13 +38,12 @@ pub struct MergeOptions<'a> {
 impl<'a> MergeOptions<'a> {
     /// What the words were matched to, if standard input goes alone.
     pub(crate) fn matched(
-        alloc: Global,
         matches: &ArgMatches<'a>,
     ) -> Result<MergeOptions<'a>, NoLine> {
         let (file, others) = files_of(matches)?;
         let form = SumAs::matched(matches);
-        let mut more = Vec::new(alloc);
-        more.extend_from_slice(others)?;
+        let mut more = Vec::new();
+        more.kit_extend_from_slice(others)?;
         Ok(MergeOptions { form, file, more })
     }
 }

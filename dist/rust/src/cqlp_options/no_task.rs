@@ -1,9 +1,8 @@
 // Written by dist/erase from crates/cqlp_options/src/no_task.rt.
 //! What is in place of options.
 
-use crate::kit_host::prelude::{AllocGlobal, String, ToText};
+use crate::kit_host::prelude::{String, ToText};
 use crate::clap::error::ErrorKind;
-use crate::kit_std::alloc::Global;
 
 error! {
 /// Why a command line starts no task.
@@ -22,10 +21,10 @@ pub enum NoTask {
 }
 
 /// What an error of the command line's parser says.
-pub(crate) fn no_task_of(alloc: Global, error: &crate::clap::Error) -> NoTask {
+pub(crate) fn no_task_of(error: &crate::clap::Error) -> NoTask {
     let text = match error.kind() {
         ErrorKind::OutOfMemory => None,
-        _ => error.to_text(alloc).ok(),
+        _ => error.to_text().ok(),
     };
     match text {
         None => NoTask::NoMemory,

@@ -1,13 +1,12 @@
 // Written by dist/erase from crates/cqlp_options/src/program.rt.
 //! The program's command line, as its parser is given it.
 
-use crate::kit_host::prelude::{AllocGlobal};
 use crate::cqlp_options::command_line::QUERIES;
 use crate::cqlp_options::limits::CaptureLimits;
 use crate::clap::builder::ValueParser;
 use crate::clap::{Arg, ArgAction, Command, value_parser};
 use crate::cqlp_note::{LimitRange, Limits};
-use crate::kit_std::alloc::{AllocError, Global};
+use crate::kit_std::alloc::{AllocError};
 
 /// What the program's own help ends with. docs/check compares its numbers with `Limits`.
 const HELP: &str = "Each of show, rows and check takes a FILE, where - is standard input, and\n\
@@ -28,20 +27,20 @@ const HELP: &str = "Each of show, rows and check takes a FILE, where - is standa
     Example: cqlp rows capture.bin";
 
 /// The program's command line.
-pub(crate) fn program<'a>(alloc: Global) -> Result<Command<'a>, AllocError> {
-    with_tasks(alloc, &TASKS)
+pub(crate) fn program<'a>() -> Result<Command<'a>, AllocError> {
+    with_tasks(&TASKS)
 }
 
-fn with_tasks<'a>(alloc: Global, tasks: &[Task]) -> Result<Command<'a>, AllocError> {
-    let mut program = without_tasks(alloc)?;
+fn with_tasks<'a>(tasks: &[Task]) -> Result<Command<'a>, AllocError> {
+    let mut program = without_tasks()?;
     for task in tasks {
-        program = with_task(alloc, program, task)?;
+        program = with_task(program, task)?;
     }
     Ok(program)
 }
 
-fn without_tasks<'a>(alloc: Global) -> Result<Command<'a>, AllocError> {
-    let program = Command::new(alloc, "cqlp")
+fn without_tasks<'a>() -> Result<Command<'a>, AllocError> {
+    let program = Command::new("cqlp")
         .about(
             "Reads streams of the CQL native protocol v4 and packet captures, and has a client and a server talk",
         )
@@ -53,34 +52,32 @@ fn without_tasks<'a>(alloc: Global) -> Result<Command<'a>, AllocError> {
 }
 
 fn with_task<'a>(
-    alloc: Global,
     program: Command<'a>,
     task: &Task,
 ) -> Result<Command<'a>, AllocError> {
-    let mut command = Command::new(alloc, task.name)
+    let mut command = Command::new(task.name)
         .about(task.about)
         .after_help(task.example);
     for words in task.words {
-        command = with_words(alloc, command, words)?;
+        command = with_words(command, words)?;
     }
     program.subcommand(command)
 }
 
 fn with_words<'a>(
-    alloc: Global,
     task: Command<'a>,
     words: &[Word],
 ) -> Result<Command<'a>, AllocError> {
     let mut task = task;
     for word in words {
-        task = task.arg(word_of(alloc, word)?)?;
+        task = task.arg(word_of(word)?)?;
     }
     Ok(task)
 }
 
 /// A word as the parser is given it.
-fn word_of<'a>(alloc: Global, word: &Word) -> Result<Arg<'a>, AllocError> {
-    let arg = Arg::new(alloc, word.name).help(word.help);
+fn word_of<'a>(word: &Word) -> Result<Arg<'a>, AllocError> {
+    let arg = Arg::new(word.name).help(word.help);
     formed(arg, word.name, word.form)
         .requires_all(word.with)?
         .conflicts_with_all(word.without)

@@ -1,10 +1,10 @@
 // Written by dist/erase from crates/cqlp_packet_order/src/order.rt.
 //! A window in which packets wait for those that were captured before them.
 
-use crate::kit_host::prelude::{AllocGlobal, Clone, ToCopy, Vec};
+use crate::kit_host::prelude::{KitVec, Vec};
 use crate::cqlp_packet_order::limits::{OrderCounts, OrderLimits};
 use crate::cqlp_packet_order::packet::{KeptPacket, Packet};
-use crate::kit_std::alloc::{AllocError, Allocator, Global};
+use crate::kit_std::alloc::{AllocError};
 use crate::kit_std::collections::VecDeque;
 
 /// Of how many packets that have left the memory is kept.
@@ -18,12 +18,11 @@ const SPARES: usize = 64;
 ///
 /// A late packet, of an earlier time than one that has left, leaves next. Memory is taken for packets that wait. `give_back` keeps that of a packet
 /// which has left for those that come: that of 64 packets at most, and of each at most its share of the bytes that may wait.
-pub struct PacketOrder<A: Allocator = Global> {
-    alloc: A,
+pub struct PacketOrder {
     limits: OrderLimits,
-    waiting: VecDeque<KeptPacket<A>, A>,
+    waiting: VecDeque<KeptPacket>,
     /// Memory of packets that have left.
-    spare: Vec<Vec<u8, A>, A>,
+    spare: Vec<Vec<u8>>,
     /// How many bytes the packets that wait have.
     held: usize,
     /// The latest time of the packets that have left; 0 where there is none.
@@ -31,16 +30,12 @@ pub struct PacketOrder<A: Allocator = Global> {
     counts: OrderCounts,
 }
 
-impl<A: Allocator> PacketOrder<A> {
+impl PacketOrder {
     /// With no packets. It takes no memory but for the allocator's copy.
-    pub fn new(alloc: A, limits: OrderLimits) -> Result<Self, AllocError>
-    where
-        A: Clone,
-    {
-        let waiting = VecDeque::new(alloc.to_copy()?);
-        let spare = Vec::new(alloc.to_copy()?);
+    pub fn new(limits: OrderLimits) -> Result<Self, AllocError> {
+        let waiting = VecDeque::new();
+        let spare = Vec::new();
         Ok(PacketOrder {
-            alloc,
             limits,
             waiting,
             spare,
@@ -85,15 +80,12 @@ impl<A: Allocator> PacketOrder<A> {
     }
 
     /// Keeps a copy of a packet, behind all but those at the end that are later. Where memory is refused nothing has changed.
-    pub fn push(&mut self, packet: &Packet<'_>) -> Result<(), AllocError>
-    where
-        A: Clone,
-    {
+    pub fn kit_push(&mut self, packet: &Packet<'_>) -> Result<(), AllocError> {
         let Some(held) = self.held.checked_add(packet.bytes.len()) else {
             return Err(AllocError);
         };
         let at = self.place(packet.time);
-        let kept = KeptPacket::copy_of(packet, take_room(&mut self.spare, &self.alloc)?)?;
+        let kept = KeptPacket::copy_of(packet, take_room(&mut self.spare)?)?;
         let is_last = at == self.waiting.len();
         let Ok(()) = self.waiting.insert(at, kept) else {
             return Err(AllocError);
@@ -108,11 +100,11 @@ impl<A: Allocator> PacketOrder<A> {
     }
 
     /// Keeps the memory of a packet that has left for those that come, if it is small, and few have some.
-    pub fn give_back(&mut self, packet: KeptPacket<A>) {
+    pub fn give_back(&mut self, packet: KeptPacket) {
         let most = self.limits.packets as usize;
         let has_room = most > 0 && self.spare.len() < SPARES;
         if has_room && packet.bytes.capacity() <= self.limits.bytes / most {
-            let _ = self.spare.push(packet.bytes);
+            let _ = self.spare.kit_push(packet.bytes);
         }
     }
 
@@ -126,7 +118,7 @@ impl<A: Allocator> PacketOrder<A> {
     }
 
     /// The next packet that has to leave, since a limit is passed, or it is late, or one that waits has no time. `None` where none has to.
-    pub fn pop_due(&mut self) -> Option<KeptPacket<A>> {
+    pub fn pop_due(&mut self) -> Option<KeptPacket> {
         if self.is_due() { self.pop() } else { None }
     }
 
@@ -148,7 +140,7 @@ impl<A: Allocator> PacketOrder<A> {
     }
 
     /// The first packet that waits, which leaves.
-    pub fn pop(&mut self) -> Option<KeptPacket<A>> {
+    pub fn pop(&mut self) -> Option<KeptPacket> {
         let Some(packet) = self.waiting.pop_front() else {
             return None;
         };
@@ -159,13 +151,12 @@ impl<A: Allocator> PacketOrder<A> {
 }
 
 /// Memory for a packet, that of one that has left if there is some.
-fn take_room<A: Allocator + Clone>(
-    spare: &mut Vec<Vec<u8, A>, A>,
-    alloc: &A,
-) -> Result<Vec<u8, A>, AllocError> {
+fn take_room(
+    spare: &mut Vec<Vec<u8>>,
+) -> Result<Vec<u8>, AllocError> {
     match spare.pop() {
         Some(room) => Ok(room),
-        None => Ok(Vec::new(alloc.to_copy()?)),
+        None => Ok(Vec::new()),
     }
 }
 

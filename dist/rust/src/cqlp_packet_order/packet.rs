@@ -1,8 +1,8 @@
 // Written by dist/erase from crates/cqlp_packet_order/src/packet.rt.
 //! A captured packet, lent or kept.
 
-use crate::kit_host::prelude::{Vec};
-use crate::kit_std::alloc::{AllocError, Allocator, Global};
+use crate::kit_host::prelude::{KitVec, Vec};
+use crate::kit_std::alloc::{AllocError};
 
 /// A captured packet.
 #[derive(Clone, Copy)]
@@ -18,19 +18,19 @@ pub struct Packet<'a> {
 }
 
 /// A captured packet in memory of its own.
-pub struct KeptPacket<A: Allocator = Global> {
+pub struct KeptPacket {
     pub link: u16,
     pub time: Option<u64>,
     pub original: u32,
-    pub bytes: Vec<u8, A>,
+    pub bytes: Vec<u8>,
 }
 
-impl<A: Allocator> KeptPacket<A> {
+impl KeptPacket {
     /// A copy of a packet, in this memory or more.
-    pub(crate) fn copy_of(packet: &Packet<'_>, room: Vec<u8, A>) -> Result<Self, AllocError> {
+    pub(crate) fn copy_of(packet: &Packet<'_>, room: Vec<u8>) -> Result<Self, AllocError> {
         let mut bytes = room;
         bytes.clear();
-        bytes.extend_from_slice(packet.bytes)?;
+        bytes.kit_extend_from_slice(packet.bytes)?;
         Ok(KeptPacket {
             link: packet.link,
             time: packet.time,

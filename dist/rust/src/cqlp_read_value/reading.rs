@@ -1,7 +1,7 @@
 // Written by dist/erase from crates/cqlp_read_value/src/reading.rt.
 //! A value, read whole.
 
-use crate::kit_std::prelude::{String, Vec};
+use crate::kit_std::prelude::{KitVec, String, Vec};
 use crate::cqlp_read_value::error::ReadError;
 use crate::cqlp_read_value::front::{Front, front_content, front_count, refused, rest};
 use crate::cqlp_read_value::owned::own;
@@ -9,11 +9,9 @@ use crate::cqlp_kind::content::allows;
 use crate::cqlp_note::{Limits, Reason};
 use crate::cqlp_type::{Kind, TypeTree, check_type};
 use crate::cqlp_value::{Value, scalar};
-use crate::kit_std::alloc::Global;
 
 /// What the reading of a value goes by.
 struct Reading {
-    alloc: Global,
     limits: Limits,
 }
 
@@ -33,13 +31,11 @@ struct Reading {
 /// at the first byte after the last item of a value, or after the value itself. [`ReadError::NoMemory`] where memory was
 /// refused, which is asked for only for a text or bytes, or for a value in another, once it is read.
 pub fn read_value(
-    alloc: Global,
     limits: &Limits,
     of: Option<&TypeTree>,
     bytes: &[u8],
 ) -> Result<Value, ReadError> {
     let reading = Reading {
-        alloc,
         limits: *limits,
     };
     match of {
@@ -116,11 +112,11 @@ fn read_items(
 ) -> Result<Vec<Value>, ReadError> {
     let count = front_count(content, at)?;
     let body = rest(content, 4);
-    let mut items = Vec::new(reading.alloc);
+    let mut items = Vec::new();
     let mut used = 0;
     while items.len() < count as usize {
         let front = read_front(reading, inner, rest(body, used), at + 8 + used)?;
-        items.push(front.value)?;
+        items.kit_push(front.value)?;
         used += front.used;
     }
     if used < body.len() {
@@ -139,14 +135,14 @@ fn read_pairs(
 ) -> Result<Vec<(Value, Value)>, ReadError> {
     let count = front_count(content, at)?;
     let body = rest(content, 4);
-    let mut pairs = Vec::new(reading.alloc);
+    let mut pairs = Vec::new();
     let mut used = 0;
     while pairs.len() < count as usize {
         let key = read_front(reading, keys, rest(body, used), at + 8 + used)?;
         used += key.used;
         let value = read_front(reading, values, rest(body, used), at + 8 + used)?;
         used += value.used;
-        pairs.push((key.value, value.value))?;
+        pairs.kit_push((key.value, value.value))?;
     }
     if used < body.len() {
         return Err(refused(at + 8 + used, Reason::ExtraInValue));
@@ -161,14 +157,14 @@ fn read_types(
     content: &[u8],
     at: usize,
 ) -> Result<Vec<Value>, ReadError> {
-    let mut items = Vec::new(reading.alloc);
+    let mut items = Vec::new();
     let mut used = 0;
     for tree in types {
         if used == content.len() {
             return Ok(items);
         }
         let front = read_front(reading, tree, rest(content, used), at + 4 + used)?;
-        items.push(front.value)?;
+        items.kit_push(front.value)?;
         used += front.used;
     }
     if used < content.len() {
@@ -184,14 +180,14 @@ fn read_fields(
     content: &[u8],
     at: usize,
 ) -> Result<Vec<Value>, ReadError> {
-    let mut items = Vec::new(reading.alloc);
+    let mut items = Vec::new();
     let mut used = 0;
     for (_, tree) in fields {
         if used == content.len() {
             return Ok(items);
         }
         let front = read_front(reading, tree, rest(content, used), at + 4 + used)?;
-        items.push(front.value)?;
+        items.kit_push(front.value)?;
         used += front.used;
     }
     if used < content.len() {
@@ -207,7 +203,7 @@ fn read_scalar(reading: &Reading, kind: Kind, content: &[u8], at: usize) -> Resu
         return Err(refused(at, Reason::TooLong));
     }
     match scalar(kind, content) {
-        Ok(scalar) => Ok(Value::Leaf(own(reading.alloc, scalar)?)),
+        Ok(scalar) => Ok(Value::Leaf(own(scalar)?)),
         Err(why) => Err(refused(at, why)),
     }
 }

@@ -6,7 +6,6 @@ use crate::cqlp_render::form::{Form, Lines};
 use crate::cqlp_decode::{Decoder, Event, Outcome, Sink, SinkFault, run};
 use crate::cqlp_note::{Source, Target};
 use crate::cqlp_text::PagePlace;
-use crate::kit_std::alloc::Allocator;
 
 /// Writes the text of each event to a target. No part of a text waits between two events.
 pub(crate) struct TextSink<W: Target, F: Form> {
@@ -36,8 +35,8 @@ impl<W: Target, F: Form> Sink for TextSink<W, F> {
 
 /// Writes the lines of all events of a reader's bytes, from at most `turns` reads. The events of bytes that the decoder
 /// was given before come first. A fault of the writer is `Outcome::SinkFault`.
-pub fn render_events<R: Source, W: Target, A: Allocator>(
-    decoder: &mut Decoder<A>,
+pub fn render_events<R: Source, W: Target>(
+    decoder: &mut Decoder,
     reader: &mut R,
     w: W,
     turns: u64,
@@ -50,8 +49,8 @@ pub fn render_events<R: Source, W: Target, A: Allocator>(
 /// Writes the text of the pages of a reader's bytes, from at most `turns` reads, with a decoder that is new or has just
 /// handed out the end of a frame. Of a page that is under way nothing is written. A fault of the writer is
 /// `Outcome::SinkFault`.
-pub fn render_rows<R: Source, W: Target, A: Allocator>(
-    decoder: &mut Decoder<A>,
+pub fn render_rows<R: Source, W: Target>(
+    decoder: &mut Decoder,
     reader: &mut R,
     w: W,
     turns: u64,
@@ -63,10 +62,10 @@ pub fn render_rows<R: Source, W: Target, A: Allocator>(
 
 /// Hands all events of a reader's bytes to a sink over a buffer, from at most `turns` reads, as `run` does. Before each
 /// read, the text of the events so far is passed on.
-pub(crate) fn run_flushing<R: Source, W: Target, F: Form, A: Allocator, B: Allocator>(
-    decoder: &mut Decoder<A>,
+pub(crate) fn run_flushing<R: Source, W: Target, F: Form>(
+    decoder: &mut Decoder,
     reader: &mut R,
-    sink: &mut BufferedSink<W, B, F>,
+    sink: &mut BufferedSink<W, F>,
     turns: u64,
 ) -> Outcome {
     let mut outcome = run(decoder, reader, sink, 0);

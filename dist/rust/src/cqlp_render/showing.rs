@@ -1,7 +1,7 @@
 // Written by dist/erase from crates/cqlp_render/src/showing.rt.
 //! A whole stream, shown or checked.
 
-use crate::kit_std::prelude::{Clone, vec};
+use crate::kit_std::prelude::{vec};
 use crate::cqlp_render::buffered_sink::BufferedSink;
 use crate::cqlp_render::form::{CsvRows, Form, JsonLines, JsonRows, Lines, Nothing};
 use crate::cqlp_render::render::{TextSink, run_flushing};
@@ -10,7 +10,6 @@ use crate::cqlp_decode::{Decoder, NewError, Outcome, SinkFault, run};
 use crate::cqlp_note::{Limits, Source, Target};
 use crate::cqlp_text::exit_status::FAULT;
 use crate::cqlp_text::{Buffered, Ending, PagePlace, ending_line};
-use crate::kit_std::alloc::Allocator;
 
 /// How many reads the program makes at most.
 pub const TURNS: u64 = 4_294_967_296;
@@ -20,27 +19,24 @@ pub const ROOM: usize = 16_384;
 
 /// Writes the lines of the events of a stream to `out`, and the verdict line or fault line to `err`. Answers the exit
 /// status, and the two outputs.
-pub(crate) fn show<R: Source, O: Target, E: Target, A: Allocator>(
-    alloc: &A,
+pub(crate) fn show<R: Source, O: Target, E: Target>(
     limits: Limits,
     input: &mut R,
     out: O,
     err: E,
 ) -> (u8, O, E) {
-    show_as(alloc, limits, false, TextForm::Lines, input, out, err)
+    show_as(limits, false, TextForm::Lines, input, out, err)
 }
 
 /// Writes the text of the pages of a stream to `out`, and the verdict line or fault line to `err`. Answers the exit
 /// status, and the two outputs.
-pub(crate) fn rows<R: Source, O: Target, E: Target, A: Allocator>(
-    alloc: &A,
+pub(crate) fn rows<R: Source, O: Target, E: Target>(
     limits: Limits,
     input: &mut R,
     out: O,
     err: E,
 ) -> (u8, O, E) {
     show_as(
-        alloc,
         limits,
         false,
         TextForm::Pages(PagePlace::new()),
@@ -52,8 +48,7 @@ pub(crate) fn rows<R: Source, O: Target, E: Target, A: Allocator>(
 
 /// Writes the events of a stream, whose reading is lenient or not, to `out` as text in a form, and the verdict line or fault line
 /// to `err`. Answers the exit status, and the two outputs.
-pub(crate) fn show_as<R: Source, O: Target, E: Target, A: Allocator>(
-    alloc: &A,
+pub(crate) fn show_as<R: Source, O: Target, E: Target>(
     limits: Limits,
     lenient: bool,
     form: TextForm,
@@ -62,22 +57,21 @@ pub(crate) fn show_as<R: Source, O: Target, E: Target, A: Allocator>(
     err: E,
 ) -> (u8, O, E) {
     match form {
-        TextForm::Lines => show_in(alloc, limits, lenient, Lines, input, out, err),
-        TextForm::JsonLines => show_in(alloc, limits, lenient, JsonLines, input, out, err),
-        TextForm::Pages(place) => show_in(alloc, limits, lenient, place, input, out, err),
+        TextForm::Lines => show_in(limits, lenient, Lines, input, out, err),
+        TextForm::JsonLines => show_in(limits, lenient, JsonLines, input, out, err),
+        TextForm::Pages(place) => show_in(limits, lenient, place, input, out, err),
         TextForm::JsonRows(place) => {
-            show_in(alloc, limits, lenient, JsonRows(place), input, out, err)
+            show_in(limits, lenient, JsonRows(place), input, out, err)
         }
         TextForm::CsvRows(place) => {
-            show_in(alloc, limits, lenient, CsvRows(place), input, out, err)
+            show_in(limits, lenient, CsvRows(place), input, out, err)
         }
-        TextForm::Nothing => show_in(alloc, limits, lenient, Nothing, input, out, err),
+        TextForm::Nothing => show_in(limits, lenient, Nothing, input, out, err),
     }
 }
 
 /// Does what `show_as` does, with the type of the form.
-fn show_in<R: Source, O: Target, E: Target, F: Form, A: Allocator>(
-    alloc: &A,
+fn show_in<R: Source, O: Target, E: Target, F: Form>(
     limits: Limits,
     lenient: bool,
     form: F,
@@ -85,11 +79,11 @@ fn show_in<R: Source, O: Target, E: Target, F: Form, A: Allocator>(
     out: O,
     err: E,
 ) -> (u8, O, E) {
-    let Some(mut decoder) = decoder_within(alloc, limits, lenient) else {
+    let Some(mut decoder) = decoder_within(limits, lenient) else {
         let (status, err) = conclude(Ending::NoMemory, err);
         return (status, out, err);
     };
-    let Ok(buffer) = vec![in alloc; 0; ROOM] else {
+    let Ok(buffer) = vec![0; ROOM] else {
         let (status, err) = conclude(Ending::NoMemory, err);
         return (status, out, err);
     };
@@ -102,15 +96,14 @@ fn show_in<R: Source, O: Target, E: Target, F: Form, A: Allocator>(
 
 /// Reads a stream, leniently or not, and writes the verdict line to `out` or the fault line to `err`. Answers the exit status,
 /// and the two outputs.
-pub(crate) fn check<R: Source, O: Target, E: Target, A: Allocator>(
-    alloc: &A,
+pub(crate) fn check<R: Source, O: Target, E: Target>(
     limits: Limits,
     lenient: bool,
     input: &mut R,
     out: O,
     err: E,
 ) -> (u8, O, E) {
-    let (ending, mut out) = read_through(alloc, limits, lenient, input, out);
+    let (ending, mut out) = read_through(limits, lenient, input, out);
     let Ending::Finished(_) = ending else {
         let (status, err) = conclude(ending, err);
         return (status, out, err);
@@ -123,14 +116,13 @@ pub(crate) fn check<R: Source, O: Target, E: Target, A: Allocator>(
 }
 
 /// Reads a stream within these limits, and writes nothing of it.
-fn read_through<R: Source, O: Target, A: Allocator>(
-    alloc: &A,
+fn read_through<R: Source, O: Target>(
     limits: Limits,
     lenient: bool,
     input: &mut R,
     out: O,
 ) -> (Ending, O) {
-    let Some(mut decoder) = decoder_within(alloc, limits, lenient) else {
+    let Some(mut decoder) = decoder_within(limits, lenient) else {
         return (Ending::NoMemory, out);
     };
     let mut sink = TextSink::new(out, Nothing);
@@ -139,12 +131,12 @@ fn read_through<R: Source, O: Target, A: Allocator>(
 }
 
 /// A decoder at the start of a stream, within these limits, lenient or not; none where memory was wanting.
-fn decoder_within<'a, A: Allocator>(
-    alloc: &'a A,
+#[cfg_attr(not(feature = "cli"), inline)]
+fn decoder_within<'a>(
     limits: Limits,
     lenient: bool,
-) -> Option<Decoder<&'a A>> {
-    match new_decoder(alloc, limits, lenient) {
+) -> Option<Decoder> {
+    match new_decoder(limits, lenient) {
         Ok(decoder) => Some(decoder),
         Err(NewError::NoMemory) => None,
         Err(NewError::BadLimits(_)) => unreachable!(),
@@ -152,15 +144,15 @@ fn decoder_within<'a, A: Allocator>(
 }
 
 /// A decoder, which is lenient or not.
-fn new_decoder<A: Allocator + Clone>(
-    alloc: A,
+#[cfg_attr(not(feature = "cli"), inline)]
+fn new_decoder(
     limits: Limits,
     lenient: bool,
-) -> Result<Decoder<A>, NewError> {
+) -> Result<Decoder, NewError> {
     if lenient {
-        Decoder::lenient(alloc, limits)
+        Decoder::lenient(limits)
     } else {
-        Decoder::new(alloc, limits)
+        Decoder::new(limits)
     }
 }
 
@@ -175,7 +167,7 @@ fn ending_of(outcome: Outcome) -> Ending {
 }
 
 /// Passes on what waits in a buffer after a run, unless the target failed in it. Answers how it ends, and the target.
-fn pass_on<O: Target, A: Allocator>(outcome: Outcome, mut buffered: Buffered<O, A>) -> (Outcome, O) {
+fn pass_on<O: Target>(outcome: Outcome, mut buffered: Buffered<O>) -> (Outcome, O) {
     if let Outcome::SinkFault = outcome {
         return (outcome, buffered.into_inner());
     }

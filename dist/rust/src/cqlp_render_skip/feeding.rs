@@ -5,7 +5,6 @@ use crate::cqlp_render_skip::report::Report;
 use crate::cqlp_decode::SinkFault;
 use crate::cqlp_note::{Refusal, Target};
 use crate::cqlp_skip::{Fed, SkippingDecoder};
-use crate::kit_std::alloc::Allocator;
 
 /// How handing on a piece ends.
 #[derive(Clone, Copy)]
@@ -19,11 +18,11 @@ pub(crate) enum Handed {
 }
 
 /// Hands all events of a piece to the report, and passes over each frame whose body is refused.
-pub(crate) fn hand_piece<O: Target, E: Target, A: Allocator, B: Allocator>(
-    decoder: &mut SkippingDecoder<A>,
+pub(crate) fn hand_piece<O: Target, E: Target>(
+    decoder: &mut SkippingDecoder,
     piece: &[u8],
-    report: Report<O, E, B>,
-) -> (Handed, Report<O, E, B>) {
+    report: Report<O, E>,
+) -> (Handed, Report<O, E>) {
     let mut rest = piece;
     let mut reporter = report;
     loop {

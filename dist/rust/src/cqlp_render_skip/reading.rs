@@ -1,7 +1,7 @@
 // Written by dist/erase from crates/cqlp_render_skip/src/reading.rt.
 //! A stream that is read to its end, with frames passed over.
 
-use crate::kit_host::prelude::{AllocGlobal, Clone, vec};
+use crate::kit_host::prelude::{vec};
 use crate::cqlp_render_skip::feeding::{Handed, hand_piece};
 use crate::cqlp_render_skip::report::Report;
 use crate::cqlp_decode::{Finish, NewError, SinkFault};
@@ -9,7 +9,6 @@ use crate::cqlp_note::{IoFault, Limits, Source, Target};
 use crate::cqlp_render::{TURNS, TextForm};
 use crate::cqlp_skip::SkippingDecoder;
 use crate::cqlp_text::{Buffered, Ending};
-use crate::kit_std::alloc::Allocator;
 
 /// How many bytes of text go to the output at once.
 pub const ROOM: usize = 65_536;
@@ -24,8 +23,7 @@ pub(crate) struct Shown<O: Target, E: Target> {
 
 /// Writes the text of the events of a stream within these limits, read leniently or not, in a form, and a line for each frame that
 /// is passed over. Takes all memory before the first read.
-pub(crate) fn show_stream<R: Source, O: Target, E: Target, A: Allocator>(
-    alloc: &A,
+pub(crate) fn show_stream<R: Source, O: Target, E: Target>(
     limits: Limits,
     lenient: bool,
     form: TextForm,
@@ -33,10 +31,10 @@ pub(crate) fn show_stream<R: Source, O: Target, E: Target, A: Allocator>(
     out: O,
     err: E,
 ) -> Shown<O, E> {
-    let Some(mut decoder) = decoder_within(alloc, limits, lenient) else {
+    let Some(mut decoder) = decoder_within(limits, lenient) else {
         return nothing_shown(out, err);
     };
-    let Ok(buffer) = vec![in alloc; 0; ROOM] else {
+    let Ok(buffer) = vec![0; ROOM] else {
         return nothing_shown(out, err);
     };
     let report = Report::new(Buffered::new(out, buffer), form, err);
@@ -61,12 +59,11 @@ fn nothing_shown<O: Target, E: Target>(out: O, err: E) -> Shown<O, E> {
 }
 
 /// A decoder at the start of a stream, within these limits, lenient or not; none where memory was wanting.
-fn decoder_within<'a, A: Allocator>(
-    alloc: &'a A,
+fn decoder_within<'a>(
     limits: Limits,
     lenient: bool,
-) -> Option<SkippingDecoder<&'a A>> {
-    match new_decoder(alloc, limits, lenient) {
+) -> Option<SkippingDecoder> {
+    match new_decoder(limits, lenient) {
         Ok(decoder) => Some(decoder),
         Err(NewError::NoMemory) => None,
         Err(NewError::BadLimits(_)) => unreachable!(),
@@ -74,25 +71,24 @@ fn decoder_within<'a, A: Allocator>(
 }
 
 /// A decoder, which is lenient or not.
-fn new_decoder<A: Allocator + Clone>(
-    alloc: A,
+fn new_decoder(
     limits: Limits,
     lenient: bool,
-) -> Result<SkippingDecoder<A>, NewError> {
+) -> Result<SkippingDecoder, NewError> {
     if lenient {
-        SkippingDecoder::lenient(alloc, limits)
+        SkippingDecoder::lenient(limits)
     } else {
-        SkippingDecoder::new(alloc, limits)
+        SkippingDecoder::new(limits)
     }
 }
 
 /// Reads a stream from at most `TURNS` reads, each with room for 4,096 bytes and none tried again, and has the report write
 /// what is to be written of it. Before each read all text of the bytes read so far is passed on.
-fn read_stream<R: Source, O: Target, E: Target, A: Allocator, B: Allocator>(
-    decoder: &mut SkippingDecoder<A>,
+fn read_stream<R: Source, O: Target, E: Target>(
+    decoder: &mut SkippingDecoder,
     input: &mut R,
-    report: Report<O, E, B>,
-) -> (Ending, Report<O, E, B>) {
+    report: Report<O, E>,
+) -> (Ending, Report<O, E>) {
     let mut reporter = report;
     let mut buffer = [0; 4096];
     for turn in 0..TURNS {

@@ -8,20 +8,19 @@ use crate::cqlp_note::Target;
 use crate::cqlp_render::TextForm;
 use crate::cqlp_skip::Skipped;
 use crate::cqlp_text::{Buffered, TextWriter};
-use crate::kit_std::alloc::Allocator;
 
 /// Writes the text of each event straight into a buffer in front of the output, and the lines of frames that are passed over
 /// to the error output.
-pub(crate) struct Report<O: Target, E: Target, A: Allocator> {
-    writer: TextWriter<Buffered<O, A>>,
+pub(crate) struct Report<O: Target, E: Target> {
+    writer: TextWriter<Buffered<O>>,
     form: TextForm,
     err: E,
     passed_over: bool,
 }
 
-impl<O: Target, E: Target, A: Allocator> Report<O, E, A> {
+impl<O: Target, E: Target> Report<O, E> {
     /// Over a buffer, in a form, and an error output.
-    pub fn new(buffered: Buffered<O, A>, form: TextForm, err: E) -> Self {
+    pub fn new(buffered: Buffered<O>, form: TextForm, err: E) -> Self {
         Report {
             writer: TextWriter::new(buffered),
             form,
@@ -60,7 +59,7 @@ impl<O: Target, E: Target, A: Allocator> Report<O, E, A> {
     }
 }
 
-impl<O: Target, E: Target, A: Allocator> Sink for Report<O, E, A> {
+impl<O: Target, E: Target> Sink for Report<O, E> {
     #[inline]
     fn take(&mut self, at: u64, event: &Event<'_>) -> Result<(), SinkFault> {
         write_event(&mut self.form, at, event, &mut self.writer)

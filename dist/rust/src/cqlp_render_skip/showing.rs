@@ -1,14 +1,12 @@
 // Written by dist/erase from crates/cqlp_render_skip/src/showing.rt.
 //! A whole stream, shown or checked, with frames passed over.
 
-use crate::kit_host::prelude::{AllocGlobal};
 use crate::cqlp_render_skip::reading::{Shown, show_stream};
 use crate::cqlp_decode::SinkFault;
 use crate::cqlp_note::{Limits, Source, Target};
 use crate::cqlp_render::{TextForm, conclude};
 use crate::cqlp_text::exit_status::NOT_WHOLE;
 use crate::cqlp_text::{Ending, ending_line};
-use crate::kit_std::alloc::Allocator;
 
 /// Writes the events of a stream, whose reading is lenient or not, to `out` as text in a form, which is at no page. Of a frame whose body
 /// is refused it writes those before the refusal, passes over the rest of the frame, writes the line `skipped OFFSET REASON at AT` to `err`,
@@ -17,8 +15,7 @@ use crate::kit_std::alloc::Allocator;
 ///
 /// What comes next begins on a new line: of the text of pages a line break follows each frame that was passed over, which ends a row that is
 /// cut, and is an empty line where none is. Of rows as JSON or CSV it follows where a page is cut; in CSV after the quote of its field.
-pub(crate) fn show_skipping<R: Source, O: Target, E: Target, A: Allocator>(
-    alloc: &A,
+pub(crate) fn show_skipping<R: Source, O: Target, E: Target>(
     limits: Limits,
     lenient: bool,
     form: TextForm,
@@ -26,20 +23,19 @@ pub(crate) fn show_skipping<R: Source, O: Target, E: Target, A: Allocator>(
     out: O,
     err: E,
 ) -> (u8, O, E) {
-    report(show_stream(alloc, limits, lenient, form, input, out, err))
+    report(show_stream(limits, lenient, form, input, out, err))
 }
 
 /// Reads a stream, leniently or not, passes over frames as `show_skipping` does, and writes the verdict line to `out` or the fault line to
 /// `err`. Answers the exit status, and the two outputs.
-pub(crate) fn check_skipping<R: Source, O: Target, E: Target, A: Allocator>(
-    alloc: &A,
+pub(crate) fn check_skipping<R: Source, O: Target, E: Target>(
     limits: Limits,
     lenient: bool,
     input: &mut R,
     out: O,
     err: E,
 ) -> (u8, O, E) {
-    let shown = show_stream(alloc, limits, lenient, TextForm::Nothing, input, out, err);
+    let shown = show_stream(limits, lenient, TextForm::Nothing, input, out, err);
     let Shown {
         ending,
         passed_over,

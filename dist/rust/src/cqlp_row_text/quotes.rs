@@ -1,6 +1,7 @@
 // Written by dist/erase from crates/cqlp_row_text/src/quotes.rt.
 //! Texts in quotes, where a quote is doubled.
 
+use crate::kit_std::prelude::{KitVec};
 use crate::cqlp_grammar::SinkFault;
 use crate::cqlp_text::{Pen, TextWriter};
 use crate::kit_std::simd::prelude::*;

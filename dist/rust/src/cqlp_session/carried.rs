@@ -1,9 +1,9 @@
 // Written by dist/erase from crates/cqlp_session/src/carried.rt.
 //! The values that are carried with open requests.
 
-use crate::kit_std::prelude::{Vec};
+use crate::kit_std::prelude::{KitVec, Vec};
 use crate::cqlp_session::slots;
-use crate::kit_std::alloc::{AllocError, Allocator};
+use crate::kit_std::alloc::{AllocError};
 
 /// A call that was refused, and the value that was to be carried.
 #[derive(Clone, Copy, Debug, PartialEq, Eq)]
@@ -15,11 +15,10 @@ pub struct Refused<E, T> {
 }
 
 /// This many places for values, all empty, in memory for just these.
-pub(crate) fn empty<T, A: Allocator>(
-    alloc: A,
+pub(crate) fn empty<T>(
     len: usize,
-) -> Result<Vec<Option<T>, A>, AllocError> {
-    let mut carried = Vec::with_capacity(alloc, len)?;
+) -> Result<Vec<Option<T>>, AllocError> {
+    let mut carried = Vec::kit_with_capacity(len)?;
     for _ in 0..len {
         carried.push_reserved(None);
     }

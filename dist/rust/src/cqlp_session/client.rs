@@ -1,7 +1,6 @@
 // Written by dist/erase from crates/cqlp_session/src/client.rt.
 //! The client's core.
 
-use crate::kit_std::prelude::{Clone};
 use crate::cqlp_session::kind::RequestKind;
 use crate::cqlp_session::phase::Phase;
 use crate::cqlp_session::refusal::SlotsOrMemory;
@@ -9,45 +8,46 @@ use crate::cqlp_session::slots;
 use crate::cqlp_session::streams::{OpenRequest, Streams};
 use crate::cqlp_session::ticket::{BeginError, Reply, Stray, Ticket};
 use crate::cqlp_note::{Header, Opcode};
-use crate::kit_std::alloc::{Allocator, Global};
 
 /// Which requests are open on one connection, seen from its client. An id is given out again only once the reply to
 /// the request before was handed in.
-pub struct Client<A: Allocator = Global> {
+pub struct Client {
     phase: Phase,
     /// How many requests have begun.
     begun: u64,
-    streams: Streams<A>,
+    streams: Streams,
 }
 
-impl<A: Allocator> Client<A> {
+impl Client {
     /// The core of a connection on which nothing was sent yet. `slots` is how many requests may be open at a time, 1 to
     /// 32,768; their stream ids are those below it (section 2.3 of `native_protocol_v4.spec`). All memory is taken here.
     ///
     /// # Errors
     ///
     /// A number of slots that is 0 or over 32,768, and memory that is refused.
-    pub fn new(alloc: A, slots: u16) -> Result<Client<A>, SlotsOrMemory>
-    where
-        A: Clone,
-    {
+    #[cfg_attr(not(feature = "cli"), inline)]
+    pub fn new(slots: u16) -> Result<Client, SlotsOrMemory> {
         if !(1..=slots::MOST).contains(&slots) {
             return Err(SlotsOrMemory::BadSlots);
         }
         Ok(Client {
             phase: Phase::Fresh,
             begun: 0,
-            streams: Streams::new(alloc, slots)?,
+            streams: Streams::new(slots)?,
         })
     }
 
     /// How far the setting up of the connection has come.
+    #[cfg_attr(not(feature = "cli"), inline)]
+    #[must_use]
     pub fn phase(&self) -> Phase {
         self.phase
     }
 
     /// Whether a request is open under this stream id: one began under it, and its reply has not come. A request that was
     /// cancelled is open until then. No request is open under a negative id.
+    #[cfg_attr(not(feature = "cli"), inline)]
+    #[must_use]
     pub fn is_open(&self, stream: i16) -> bool {
         self.streams.under(stream).is_some()
     }
@@ -60,6 +60,7 @@ impl<A: Allocator> Client<A> {
     /// # Errors
     ///
     /// `Phase`, `Spent` or `Full`, as said above.
+    #[cfg_attr(not(feature = "cli"), inline)]
     pub fn begin(&mut self, kind: RequestKind) -> Result<Ticket, BeginError>
 
         // What the answer says of the ids and the numbers.
@@ -95,6 +96,7 @@ impl<A: Allocator> Client<A> {
     /// # Errors
     ///
     /// `NotResponse`, `NoSuchStream` or `WrongOpcode`, as said above.
+    #[cfg_attr(not(feature = "cli"), inline)]
     pub fn reply(&mut self, header: &Header) -> Result<Reply, Stray> {
         let Header {
             response,
@@ -133,6 +135,7 @@ impl<A: Allocator> Client<A> {
 
     /// Gives up a request that waits for its reply, and was not given up before, unless it is a STARTUP or an
     /// AUTH_RESPONSE; else changes nothing. Its id stays taken until its reply comes.
+    #[cfg_attr(not(feature = "cli"), inline)]
     pub fn cancel(&mut self, ticket: Ticket) -> bool {
         let Some(open) = self.streams.under(ticket.id) else {
             return false;

@@ -1,7 +1,7 @@
 // Written by dist/erase from crates/cqlp_session/src/client_of.rt.
 //! The client's core with a value for each open request.
 
-use crate::kit_std::prelude::{Clone, Vec};
+use crate::kit_std::prelude::{Vec};
 use crate::cqlp_session::carried::Refused;
 use crate::cqlp_session::client::Client;
 use crate::cqlp_session::into_values::IntoValues;
@@ -11,7 +11,6 @@ use crate::cqlp_session::refusal::SlotsOrMemory;
 use crate::cqlp_session::ticket::{BeginError, Reply, Stray, Ticket};
 use crate::cqlp_session::{carried, slots};
 use crate::cqlp_note::Header;
-use crate::kit_std::alloc::{Allocator, Global};
 
 /// What a response's header says to a client, with the value of the request that it answers.
 #[derive(Clone, Copy, Debug, PartialEq, Eq)]
@@ -37,43 +36,43 @@ pub enum ReplyOf<T> {
 }
 
 /// A [`Client`] that carries a value of the caller's with each open request, from its `begin` to its reply.
-pub struct ClientOf<T, A: Allocator = Global> {
-    core: Client<A>,
+pub struct ClientOf<T> {
+    core: Client,
     /// The value of the request that is open under each stream id.
-    carried: Vec<Option<T>, A>,
+    carried: Vec<Option<T>>,
 }
 
-impl<T, A: Allocator> ClientOf<T, A> {
+impl<T> ClientOf<T> {
     /// The core of a connection on which nothing was sent yet. `slots` is how many requests may be open at a time, 1 to
     /// 32,768, as in [`Client::new`]. All memory is taken here: that of a `Client`, and a place for each value.
     ///
     /// # Errors
     ///
     /// A number of slots that is 0 or over 32,768, and memory that is refused.
-    pub fn new(alloc: A, slots: u16) -> Result<ClientOf<T, A>, SlotsOrMemory>
-    where
-        A: Clone,
-    {
+    pub fn new(slots: u16) -> Result<ClientOf<T>, SlotsOrMemory> {
         if !(1..=slots::MOST).contains(&slots) {
             return Err(SlotsOrMemory::BadSlots);
         }
         Ok(ClientOf {
-            core: Client::new(alloc.clone()?, slots)?,
-            carried: carried::empty(alloc, slots as usize)?,
+            core: Client::new(slots)?,
+            carried: carried::empty(slots as usize)?,
         })
     }
 
     /// How far the setting up of the connection has come.
+    #[must_use]
     pub fn phase(&self) -> Phase {
         self.core.phase()
     }
 
     /// Whether a request is open under this stream id, as in [`Client::is_open`].
+    #[must_use]
     pub fn is_open(&self, stream: i16) -> bool {
         self.core.is_open(stream)
     }
 
     /// The value that the request carries which is open under this stream id. None where none is.
+    #[must_use]
     pub fn get(&self, stream: i16) -> Option<&T> {
         carried::get(&self.carried, stream)
     }
@@ -94,7 +93,8 @@ impl<T, A: Allocator> ClientOf<T, A> {
 
     /// The values of all requests that are still open, in the order of their stream ids: what is left to report when
     /// the connection ends. Takes no memory.
-    pub fn into_values(self) -> IntoValues<T, A> {
+    #[must_use]
+    pub fn into_values(self) -> IntoValues<T> {
         let ClientOf { core: _, carried } = self;
         IntoValues::new(carried)
     }

@@ -10,15 +10,15 @@ use crate::cqlp_session::server::{AnswerError, Server};
 use crate::cqlp_session::server_of::ServerOf;
 use crate::cqlp_session::ticket::{BeginError, Ticket};
 use crate::cqlp_note::{Header, Opcode};
-use crate::kit_std::alloc::Allocator;
 
-impl<A: Allocator> Client<A> {
+impl Client {
     /// Begins a request, as [`Client::begin`] does, and gives its header: a request with the ticket's stream id and the
     /// opcode of its kind. It is lawful, and what a server's core takes for this request.
     ///
     /// # Errors
     ///
     /// As [`Client::begin`].
+    #[cfg_attr(not(feature = "cli"), inline)]
     pub fn begin_with(
         &mut self,
         kind: RequestKind,
@@ -29,13 +29,14 @@ impl<A: Allocator> Client<A> {
     }
 }
 
-impl<A: Allocator> Server<A> {
+impl Server {
     /// Answers the request that is open under this id, as [`Server::answer`] does, and gives the header of the response,
     /// with that id and that opcode. It is lawful, and what the client's core takes for the reply.
     ///
     /// # Errors
     ///
     /// As [`Server::answer`].
+    #[cfg_attr(not(feature = "cli"), inline)]
     pub fn answer_with(
         &mut self,
         id: i16,
@@ -47,7 +48,7 @@ impl<A: Allocator> Server<A> {
     }
 }
 
-impl<T, A: Allocator> ClientOf<T, A> {
+impl<T> ClientOf<T> {
     /// Begins a request and keeps a value, as [`ClientOf::begin`] does, and gives its header, as [`Client::begin_with`] does.
     ///
     /// # Errors
@@ -66,7 +67,7 @@ impl<T, A: Allocator> ClientOf<T, A> {
     }
 }
 
-impl<T, A: Allocator> ServerOf<T, A> {
+impl<T> ServerOf<T> {
     /// Answers a request and hands out its value, as [`ServerOf::answer`] does, and gives the header of the response, as
     /// [`Server::answer_with`] does.
     ///

@@ -2,26 +2,25 @@
 //! The values of requests that are still open when a connection ends.
 
 use crate::kit_std::prelude::{Vec};
-use crate::kit_std::alloc::{Allocator, Global};
 use core::iter::FusedIterator;
 
 /// The values of the requests that were open, in the order of their stream ids, seen as the list of those that are left.
 /// Of [`ClientOf::into_values`](crate::cqlp_session::ClientOf::into_values) and
 /// [`ServerOf::into_values`](crate::cqlp_session::ServerOf::into_values).
-pub struct IntoValues<T, A: Allocator = Global> {
+pub struct IntoValues<T> {
     /// What is carried under the ids that are left, the last first.
-    carried: Vec<Option<T>, A>,
+    carried: Vec<Option<T>>,
 }
 
-impl<T, A: Allocator> IntoValues<T, A> {
+impl<T> IntoValues<T> {
     /// The values that are carried under the ids from 0 on.
-    pub(crate) fn new(mut carried: Vec<Option<T>, A>) -> IntoValues<T, A> {
+    pub(crate) fn new(mut carried: Vec<Option<T>>) -> IntoValues<T> {
         carried.reverse();
         IntoValues { carried }
     }
 }
 
-impl<T, A: Allocator> Iterator for IntoValues<T, A> {
+impl<T> Iterator for IntoValues<T> {
     type Item = T;
 
     fn next(&mut self) -> Option<T> {
@@ -34,4 +33,4 @@ impl<T, A: Allocator> Iterator for IntoValues<T, A> {
     }
 }
 
-impl<T, A: Allocator> FusedIterator for IntoValues<T, A> {}
+impl<T> FusedIterator for IntoValues<T> {}

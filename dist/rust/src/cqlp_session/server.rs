@@ -7,7 +7,6 @@ use crate::cqlp_session::phase::Phase;
 use crate::cqlp_session::refusal::SlotsOrMemory;
 use crate::cqlp_session::slots;
 use crate::cqlp_note::{Header, Opcode};
-use crate::kit_std::alloc::{Allocator, Global};
 
 error! {
 /// Why a message is not accepted as a request.
@@ -42,35 +41,40 @@ pub enum AnswerError {
 }
 
 /// Which requests are open on one connection, seen from its server.
-pub struct Server<A: Allocator = Global> {
+pub struct Server {
     phase: Phase,
     /// The kind of request that is open under each stream id.
-    slots: Vec<Option<RequestKind>, A>,
+    slots: Vec<Option<RequestKind>>,
 }
 
-impl<A: Allocator> Server<A> {
+impl Server {
     /// The core of a connection on which nothing came yet. `slots` is how many requests may be open at a time, 1 to
     /// 32,768; their stream ids are those below it (section 2.3 of `native_protocol_v4.spec`). All memory is taken here.
     ///
     /// # Errors
     ///
     /// A number of slots that is 0 or over 32,768, and memory that is refused.
-    pub fn new(alloc: A, slots: u16) -> Result<Server<A>, SlotsOrMemory> {
+    #[cfg_attr(not(feature = "cli"), inline)]
+    pub fn new(slots: u16) -> Result<Server, SlotsOrMemory> {
         if !(1..=slots::MOST).contains(&slots) {
             return Err(SlotsOrMemory::BadSlots);
         }
         Ok(Server {
             phase: Phase::Fresh,
-            slots: slots::empty(alloc, slots as usize)?,
+            slots: slots::empty(slots as usize)?,
         })
     }
 
     /// How far the setting up of the connection has come.
+    #[cfg_attr(not(feature = "cli"), inline)]
+    #[must_use]
     pub fn phase(&self) -> Phase {
         self.phase
     }
 
     /// Whether a request is open under this stream id: one was accepted under it, and is not answered yet.
+    #[cfg_attr(not(feature = "cli"), inline)]
+    #[must_use]
     pub fn is_open(&self, stream: i16) -> bool {
         slots::under(&self.slots, stream).is_some()
     }
@@ -85,6 +89,7 @@ impl<A: Allocator> Server<A> {
     /// # Errors
     ///
     /// `NotRequest`, `BadId`, `IdTaken` or `Phase`, as said above.
+    #[cfg_attr(not(feature = "cli"), inline)]
     pub fn accept(&mut self, header: &Header) -> Result<RequestKind, ServerRefusal> {
         let Header {
             response,
@@ -122,6 +127,7 @@ impl<A: Allocator> Server<A> {
     /// # Errors
     ///
     /// `NotTaken` or `WrongOpcode`, as said above.
+    #[cfg_attr(not(feature = "cli"), inline)]
     pub fn answer(&mut self, id: i16, opcode: Opcode) -> Result<RequestKind, AnswerError> {
         let Some(kind) = slots::under(&self.slots, id) else {
             return Err(AnswerError::NotTaken);

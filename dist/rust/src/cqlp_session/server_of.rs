@@ -1,7 +1,7 @@
 // Written by dist/erase from crates/cqlp_session/src/server_of.rt.
 //! The server's core with a value for each open request.
 
-use crate::kit_std::prelude::{Clone, Vec};
+use crate::kit_std::prelude::{Vec};
 use crate::cqlp_session::carried::Refused;
 use crate::cqlp_session::into_values::IntoValues;
 use crate::cqlp_session::kind::RequestKind;
@@ -10,46 +10,45 @@ use crate::cqlp_session::refusal::SlotsOrMemory;
 use crate::cqlp_session::server::{AnswerError, Server, ServerRefusal};
 use crate::cqlp_session::{carried, slots};
 use crate::cqlp_note::{Header, Opcode};
-use crate::kit_std::alloc::{Allocator, Global};
 
 /// A [`Server`] that carries a value of the caller's with each open request, from its `accept` to its answer.
-pub struct ServerOf<T, A: Allocator = Global> {
-    core: Server<A>,
+pub struct ServerOf<T> {
+    core: Server,
     /// The value of the request that is open under each stream id.
-    carried: Vec<Option<T>, A>,
+    carried: Vec<Option<T>>,
 }
 
-impl<T, A: Allocator> ServerOf<T, A> {
+impl<T> ServerOf<T> {
     /// The core of a connection on which nothing came yet. `slots` is how many requests may be open at a time, 1 to
     /// 32,768, as in [`Server::new`]. All memory is taken here: that of a `Server`, and a place for each value.
     ///
     /// # Errors
     ///
     /// A number of slots that is 0 or over 32,768, and memory that is refused.
-    pub fn new(alloc: A, slots: u16) -> Result<ServerOf<T, A>, SlotsOrMemory>
-    where
-        A: Clone,
-    {
+    pub fn new(slots: u16) -> Result<ServerOf<T>, SlotsOrMemory> {
         if !(1..=slots::MOST).contains(&slots) {
             return Err(SlotsOrMemory::BadSlots);
         }
         Ok(ServerOf {
-            core: Server::new(alloc.clone()?, slots)?,
-            carried: carried::empty(alloc, slots as usize)?,
+            core: Server::new(slots)?,
+            carried: carried::empty(slots as usize)?,
         })
     }
 
     /// How far the setting up of the connection has come.
+    #[must_use]
     pub fn phase(&self) -> Phase {
         self.core.phase()
     }
 
     /// Whether a request is open under this stream id, as in [`Server::is_open`].
+    #[must_use]
     pub fn is_open(&self, stream: i16) -> bool {
         self.core.is_open(stream)
     }
 
     /// The value that the request carries which is open under this stream id. None where none is.
+    #[must_use]
     pub fn get(&self, stream: i16) -> Option<&T> {
         carried::get(&self.carried, stream)
     }
@@ -70,7 +69,8 @@ impl<T, A: Allocator> ServerOf<T, A> {
 
     /// The values of all requests that are still open, in the order of their stream ids: what is left to report when
     /// the connection ends. Takes no memory.
-    pub fn into_values(self) -> IntoValues<T, A> {
+    #[must_use]
+    pub fn into_values(self) -> IntoValues<T> {
         let ServerOf { core: _, carried } = self;
         IntoValues::new(carried)
     }

@@ -1,8 +1,8 @@
 // Written by dist/erase from crates/cqlp_session/src/slots.rt.
 //! What is under each stream id.
 
-use crate::kit_std::prelude::{Vec};
-use crate::kit_std::alloc::{AllocError, Allocator};
+use crate::kit_std::prelude::{KitVec, Vec};
+use crate::kit_std::alloc::{AllocError};
 
 /// The most stream ids that a connection has. Section 2.3 of `native_protocol_v4.spec`.
 pub(crate) const MOST: u16 = 32_768;
@@ -37,11 +37,10 @@ pub(crate) fn put<T: Copy>(slots: &mut [Option<T>], id: i16, what: Option<T>) {
 }
 
 /// This many slots, all empty, in memory for just these.
-pub(crate) fn empty<T: Copy, A: Allocator>(
-    alloc: A,
+pub(crate) fn empty<T: Copy>(
     len: usize,
-) -> Result<Vec<Option<T>, A>, AllocError> {
-    let mut slots = Vec::with_capacity(alloc, len)?;
+) -> Result<Vec<Option<T>>, AllocError> {
+    let mut slots = Vec::kit_with_capacity(len)?;
     for _ in 0..len {
         slots.push_reserved(None);
     }

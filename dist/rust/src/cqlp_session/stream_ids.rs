@@ -1,15 +1,16 @@
 // Written by dist/erase from crates/cqlp_session/src/stream_ids.rt.
 //! The free stream ids, one bit to an id, so that the least is found a word at a time.
 
-use crate::kit_std::prelude::{Vec};
-use crate::kit_std::alloc::{AllocError, Allocator};
+use crate::kit_std::prelude::{KitVec, Vec};
+use crate::kit_std::alloc::{AllocError};
 
 const BITS: usize = 64;
 
 /// Words with a bit for each of `len` ids and for those that fill up the last word, all set, in memory for just these.
-pub(crate) fn all<A: Allocator>(alloc: A, len: usize) -> Result<Vec<u64, A>, AllocError> {
+#[cfg_attr(not(feature = "cli"), inline)]
+pub(crate) fn all(len: usize) -> Result<Vec<u64>, AllocError> {
     let count = len.div_ceil(BITS);
-    let mut words = Vec::with_capacity(alloc, count)?;
+    let mut words = Vec::kit_with_capacity(count)?;
     for _ in 0..count {
         words.push_reserved(u64::MAX);
     }

@@ -1,10 +1,10 @@
 // Written by dist/erase from crates/cqlp_session/src/streams.rt.
 //! The stream ids of a client.
 
-use crate::kit_std::prelude::{Clone, Vec};
+use crate::kit_std::prelude::{Vec};
 use crate::cqlp_session::kind::RequestKind;
 use crate::cqlp_session::{slots, stream_ids};
-use crate::kit_std::alloc::{AllocError, Allocator, Global};
+use crate::kit_std::alloc::{AllocError};
 
 /// A request whose reply has not come.
 #[derive(Clone, Copy)]
@@ -16,30 +16,30 @@ pub struct OpenRequest {
 }
 
 /// The request that is open under each id, and which ids are free.
-pub(crate) struct Streams<A: Allocator = Global> {
-    slots: Vec<Option<OpenRequest>, A>,
+pub(crate) struct Streams {
+    slots: Vec<Option<OpenRequest>>,
     /// A bit for each id, set where it is free.
-    free: Vec<u64, A>,
+    free: Vec<u64>,
 }
 
-impl<A: Allocator> Streams<A> {
+impl Streams {
     /// Ids from 0 on, all free.
-    pub(crate) fn new(alloc: A, len: u16) -> Result<Streams<A>, AllocError>
-    where
-        A: Clone,
-    {
+    #[cfg_attr(not(feature = "cli"), inline)]
+    pub(crate) fn new(len: u16) -> Result<Streams, AllocError> {
         let len = len as usize;
-        let slots = slots::empty(alloc.clone()?, len)?;
-        let free = stream_ids::all(alloc, len)?;
+        let slots = slots::empty(len)?;
+        let free = stream_ids::all(len)?;
         Ok(Streams { slots, free })
     }
 
     /// The request that is open under this id.
+    #[cfg_attr(not(feature = "cli"), inline)]
     pub(crate) fn under(&self, id: i16) -> Option<OpenRequest> {
         slots::under(&self.slots, id)
     }
 
     /// The least id that is free.
+    #[cfg_attr(not(feature = "cli"), inline)]
     pub(crate) fn least_free(&self) -> Option<i16> {
         let place = stream_ids::first(&self.free)?;
         if place < self.slots.len() {
@@ -50,6 +50,7 @@ impl<A: Allocator> Streams<A> {
     }
 
     /// Opens a request under this id, or frees it.
+    #[cfg_attr(not(feature = "cli"), inline)]
     pub(crate) fn put(&mut self, id: i16, what: Option<OpenRequest>) {
         let Some(place) = slots::index_of(id) else {
             return;

@@ -1,21 +1,19 @@
 // Written by dist/erase from crates/cqlp_skip/src/skipping.rt.
 //! A decoder that goes on after a frame whose body is refused.
 
-use crate::kit_std::prelude::{Clone};
 use crate::cqlp_skip::fed::{NotSkippable, Skipped, fed_from, passed_of, refusal_from, used_of};
 use crate::cqlp_skip::frame::{OpenFrame, stream_offset};
 use crate::cqlp_skip::shifting::Shifting;
 use crate::cqlp_decode::{Capacity, Decoder, Fed, Finish, GiveError, Held, NewError, Sink};
 use crate::cqlp_note::Limits;
 use crate::cqlp_type::TypeTable;
-use crate::kit_std::alloc::{Allocator, Global};
 
 /// Reads a stream of frames from pieces of any size, as a `Decoder` does, with offsets in the whole stream. Where it
 /// is refused in the body of a frame it can pass over the rest of that frame, and go on with the next header. It takes all
 /// its memory when it is made.
-pub struct SkippingDecoder<A: Allocator = Global> {
+pub struct SkippingDecoder {
     /// The decoder of the present stretch, which begins where a stream begins or after a frame that was passed over.
-    decoder: Decoder<A>,
+    decoder: Decoder,
     /// Where the present stretch begins in the whole stream.
     base: u64,
     /// How many bytes of the whole stream were used.
@@ -26,15 +24,16 @@ pub struct SkippingDecoder<A: Allocator = Global> {
     last: u64,
 }
 
-impl<A: Allocator + Clone> SkippingDecoder<A> {
+impl SkippingDecoder {
     /// A decoder at the start of a stream, with the memory of a `Decoder` within these limits: four requests for memory,
     /// and the only ones.
     ///
     /// # Errors
     ///
     /// Limits out of their ranges, and memory that is refused.
-    pub fn new(alloc: A, limits: Limits) -> Result<Self, NewError> {
-        match Decoder::new(alloc, limits) {
+    #[cfg_attr(not(feature = "cli"), inline)]
+    pub fn new(limits: Limits) -> Result<Self, NewError> {
+        match Decoder::new(limits) {
             Ok(decoder) => Ok(Self::around(decoder)),
             Err(error) => Err(error),
         }
@@ -46,17 +45,19 @@ impl<A: Allocator + Clone> SkippingDecoder<A> {
     /// # Errors
     ///
     /// As `new`.
-    pub fn lenient(alloc: A, limits: Limits) -> Result<Self, NewError> {
-        match Decoder::lenient(alloc, limits) {
+    #[cfg_attr(not(feature = "cli"), inline)]
+    pub fn lenient(limits: Limits) -> Result<Self, NewError> {
+        match Decoder::lenient(limits) {
             Ok(decoder) => Ok(Self::around(decoder)),
             Err(error) => Err(error),
         }
     }
 }
 
-impl<A: Allocator> SkippingDecoder<A> {
+impl SkippingDecoder {
     /// What reads a whole stream with a decoder at its start.
-    fn around(decoder: Decoder<A>) -> Self {
+    #[cfg_attr(not(feature = "cli"), inline)]
+    fn around(decoder: Decoder) -> Self {
         SkippingDecoder {
             decoder,
             base: 0,
@@ -95,13 +96,15 @@ impl<A: Allocator> SkippingDecoder<A> {
     /// # Errors
     ///
     /// The first reason against the table, which comes back with it: nothing changes.
-    pub fn give(&mut self, table: TypeTable<A>) -> Result<Option<TypeTable<A>>, GiveError<A>> {
+    #[cfg_attr(not(feature = "cli"), inline)]
+    pub fn give(&mut self, table: TypeTable) -> Result<Option<TypeTable>, GiveError> {
         self.decoder.give(table)
     }
 
     /// Takes back the table that was given over the present stretch, if one is held and not in use. After a refusal none is in
     /// use, so a table that the next stretch is to have is taken back before the frame is passed over, and given again.
-    pub fn take_given(&mut self) -> Option<TypeTable<A>> {
+    #[cfg_attr(not(feature = "cli"), inline)]
+    pub fn take_given(&mut self) -> Option<TypeTable> {
         self.decoder.take_given()
     }
 
@@ -113,6 +116,7 @@ impl<A: Allocator> SkippingDecoder<A> {
     /// # Errors
     ///
     /// A stream that is not refused, or in which no header of the frame was handed out: nothing changes.
+    #[cfg_attr(not(feature = "cli"), inline)]
     pub fn skip(&mut self) -> Result<Skipped, NotSkippable> {
         let Finish::Refused(refusal) = self.decoder.finish() else {
             return Err(NotSkippable::NotRefused);
@@ -137,6 +141,8 @@ impl<A: Allocator> SkippingDecoder<A> {
     }
 
     /// How the stream ends, if it ends after the bytes that were used.
+    #[cfg_attr(not(feature = "cli"), inline)]
+    #[must_use]
     pub fn finish(&self) -> Finish {
         if self.used < self.base {
             return Finish::Cut {
@@ -155,21 +161,29 @@ impl<A: Allocator> SkippingDecoder<A> {
     }
 
     /// What is held of the stream, as `Decoder::held` says it.
+    #[cfg_attr(not(feature = "cli"), inline)]
+    #[must_use]
     pub fn held(&self) -> Held {
         self.decoder.held()
     }
 
     /// The places that the decoder has memory for, as `Decoder::capacity` says them.
+    #[cfg_attr(not(feature = "cli"), inline)]
+    #[must_use]
     pub fn capacity(&self) -> Capacity {
         self.decoder.capacity()
     }
 
     /// The types of the metadata begun last in the present stretch, as `Decoder::table` has them.
-    pub fn table(&self) -> &TypeTable<A> {
+    #[cfg_attr(not(feature = "cli"), inline)]
+    #[must_use]
+    pub fn table(&self) -> &TypeTable {
         self.decoder.table()
     }
 
     /// How many bytes of the whole stream were used.
+    #[cfg_attr(not(feature = "cli"), inline)]
+    #[must_use]
     pub fn used(&self) -> u64 {
         self.used
     }

@@ -1,20 +1,18 @@
 // Written by dist/erase from crates/cqlp_statement_file/src/lines.rt.
 //! The lines of a file with statements.
 
-use crate::kit_host::prelude::{AllocGlobal, Vec};
+use crate::kit_host::prelude::{KitVec, Vec};
 use crate::cqlp_statement_file::fault::StatementsFault;
 use crate::cqlp_statement_file::statement::add_statement;
 use crate::cqlp_statement_file::texts::StatementTexts;
 use crate::cqlp_statement_file::undoubled::write_undoubled;
 use crate::json::Scratch;
-use crate::kit_std::alloc::Global;
 
 /// How many bytes a line has at most.
 const LONGEST: usize = 1 << 20;
 
 /// Takes a file piece by piece, and adds the statements of its lines.
 pub(crate) struct Lines {
-    alloc: Global,
     /// What came of the present line.
     line: Vec<u8>,
     /// How many lines came before it.
@@ -27,14 +25,13 @@ pub(crate) struct Lines {
 
 impl Lines {
     /// Before the first one.
-    pub(crate) fn new(alloc: Global) -> Self {
+    pub(crate) fn new() -> Self {
         Lines {
-            alloc,
-            line: Vec::new(alloc),
+            line: Vec::new(),
             before: 0,
-            plain: Vec::new(alloc),
-            scratch: Scratch::new(alloc),
-            texts: StatementTexts::new(alloc),
+            plain: Vec::new(),
+            scratch: Scratch::new(),
+            texts: StatementTexts::new(),
         }
     }
 
@@ -55,7 +52,7 @@ impl Lines {
                 line: self.number(),
             });
         }
-        match self.line.push(byte) {
+        match self.line.kit_push(byte) {
             Ok(()) => Ok(()),
             Err(_) => Err(StatementsFault::NoMemory),
         }
@@ -65,7 +62,6 @@ impl Lines {
     pub(crate) fn finish(mut self) -> Result<StatementTexts, StatementsFault> {
         self.end_line()?;
         let Lines {
-            alloc: _,
             line: _,
             before: _,
             plain: _,
@@ -100,7 +96,6 @@ impl Lines {
     fn add(&mut self) -> Result<bool, StatementsFault> {
         if write_undoubled(self.line.as_slice(), &mut self.plain)?
             && add_statement(
-                self.alloc,
                 self.plain.as_slice(),
                 &mut self.scratch,
                 &mut self.texts,
@@ -109,7 +104,6 @@ impl Lines {
             return Ok(true);
         }
         let is_one = add_statement(
-            self.alloc,
             self.line.as_slice(),
             &mut self.scratch,
             &mut self.texts,

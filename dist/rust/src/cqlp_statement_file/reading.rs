@@ -1,12 +1,11 @@
 // Written by dist/erase from crates/cqlp_statement_file/src/reading.rt.
 //! Reading a file with statements.
 
-use crate::kit_host::prelude::{AllocGlobal, vec};
+use crate::kit_host::prelude::{vec};
 use crate::cqlp_statement_file::fault::StatementsFault;
 use crate::cqlp_statement_file::lines::Lines;
 use crate::cqlp_statement_file::texts::StatementTexts;
 use crate::cqlp_note::{IoFault, Source};
-use crate::kit_std::alloc::Global;
 
 /// How many bytes a read asks for.
 const PIECE: usize = 1 << 16;
@@ -18,11 +17,10 @@ const PIECE: usize = 1 << 16;
 ///
 /// Why there are no statements. Nothing more is read then.
 pub fn read_statements<S: Source>(
-    alloc: Global,
     input: &mut S,
 ) -> Result<StatementTexts, StatementsFault> {
-    let mut piece = vec![in alloc; 0; PIECE]?;
-    let mut lines = Lines::new(alloc);
+    let mut piece = vec![0; PIECE]?;
+    let mut lines = Lines::new();
     for _ in 0..u64::MAX {
         match input.read(&mut piece) {
             Ok(0) => return lines.finish(),

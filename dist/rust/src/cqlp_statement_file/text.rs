@@ -1,8 +1,8 @@
 // Written by dist/erase from crates/cqlp_statement_file/src/text.rt.
 //! The text of a statement, as far as it is kept.
 
-use crate::kit_host::prelude::{AllocGlobal, String};
-use crate::kit_std::alloc::{AllocError, Global};
+use crate::kit_host::prelude::{KitString, String};
+use crate::kit_std::alloc::{AllocError};
 
 /// How many bytes of a text are kept at most: as many as the first 256 bytes of a PREPARE have of its text.
 const MOST: usize = 252;
@@ -15,10 +15,10 @@ pub struct StatementText {
 
 impl StatementText {
     /// The first bytes of a text, as far as they are UTF-8.
-    pub(crate) fn new(alloc: Global, text: &str) -> Result<Self, AllocError> {
+    pub(crate) fn new(text: &str) -> Result<Self, AllocError> {
         let front = front_of(text);
         let is_whole = front.len() == text.len();
-        let text = String::from_str(alloc, front)?;
+        let text = String::from_str(front)?;
         Ok(StatementText { text, is_whole })
     }
 

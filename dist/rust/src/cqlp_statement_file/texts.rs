@@ -1,23 +1,21 @@
 // Written by dist/erase from crates/cqlp_statement_file/src/texts.rt.
 //! Texts of statements by their ids.
 
-use crate::kit_host::prelude::{AllocGlobal, Vec};
+use crate::kit_host::prelude::{Vec};
 use crate::cqlp_statement_file::text::StatementText;
-use crate::kit_std::alloc::{AllocError, Global};
+use crate::kit_std::alloc::{AllocError};
 use crate::kit_std::collections::BTreeMap;
 
 /// Texts of statements by their ids, of each the first that was added.
 pub struct StatementTexts {
-    alloc: Global,
     texts: BTreeMap<Vec<u8>, StatementText>,
 }
 
 impl StatementTexts {
     /// None. Takes no memory.
-    pub fn new(alloc: Global) -> Self {
+    pub fn new() -> Self {
         StatementTexts {
-            alloc,
-            texts: BTreeMap::new(alloc),
+            texts: BTreeMap::new(),
         }
     }
 
@@ -36,7 +34,7 @@ impl StatementTexts {
         if self.get(id.as_slice()).is_some() {
             return Ok(());
         }
-        let text = StatementText::new(self.alloc, text)?;
+        let text = StatementText::new(text)?;
         match self.texts.insert(id, text) {
             Ok(_) => Ok(()),
             Err(_) => Err(AllocError),

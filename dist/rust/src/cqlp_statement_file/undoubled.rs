@@ -1,7 +1,7 @@
 // Written by dist/erase from crates/cqlp_statement_file/src/undoubled.rt.
 //! Backslashes that are written twice.
 
-use crate::kit_host::prelude::{Vec};
+use crate::kit_host::prelude::{KitVec, Vec};
 use crate::kit_std::alloc::AllocError;
 
 /// Writes a line into a buffer with each pair of backslashes as one, if it has some and all are in pairs, as cqlsh writes those of a text. Answers whether it
@@ -18,7 +18,7 @@ pub(crate) fn write_undoubled(line: &[u8], plain: &mut Vec<u8>) -> Result<bool, 
         is_open = is_backslash && !is_open;
         has_some = has_some || is_backslash;
         if !is_open {
-            plain.push(*byte)?;
+            plain.kit_push(*byte)?;
         }
     }
     Ok(has_some && !is_open)

@@ -1,32 +1,28 @@
 // Written by dist/erase from crates/cqlp_tcp_connections/src/connection.rt.
 //! One connection.
 
-use crate::kit_host::prelude::{AllocGlobal, Clone, ToCopy};
 use crate::cqlp_tcp_connections::delivery::{Admission, WayStep};
 use crate::cqlp_tcp_connections::ends::{Ends, Way};
 use crate::cqlp_tcp_connections::side::{Side, SideStep};
 use crate::cqlp_tcp_connections::totals::{Begin, ConnectionTotals, DirectionTotals, End};
 use crate::cqlp_tcp_reassembly::{Control, StreamSegment, StreamStep};
 use crate::cqlp_tcp_segment::{Segment, SegmentHead};
-use crate::kit_std::alloc::{AllocError, Allocator};
+use crate::kit_std::alloc::{AllocError};
 
 /// A connection: its number, and both directions.
-pub(crate) struct Connection<A: Allocator> {
+pub(crate) struct Connection {
     number: u64,
-    requests: Side<A>,
-    responses: Side<A>,
+    requests: Side,
+    responses: Side,
 }
 
-impl<A: Allocator> Connection<A> {
+impl Connection {
     /// A connection of which nothing was reported. It takes no memory.
-    pub(crate) fn new(alloc: A, number: u64) -> Result<Self, AllocError>
-    where
-        A: Clone,
-    {
+    pub(crate) fn new(number: u64) -> Result<Self, AllocError> {
         Ok(Connection {
             number,
-            requests: Side::new(alloc.to_copy()?),
-            responses: Side::new(alloc),
+            requests: Side::new(),
+            responses: Side::new(),
         })
     }
 
@@ -100,10 +96,7 @@ impl<A: Allocator> Connection<A> {
         segment: &Segment<'_>,
         time: Option<u64>,
         room: usize,
-    ) -> Result<Option<WayStep>, AllocError>
-    where
-        A: Clone,
-    {
+    ) -> Result<Option<WayStep>, AllocError> {
         let head = &segment.head;
         if head.flags.ack {
             let delivered = self.acknowledge(way.other(), head.acknowledgement);
@@ -164,10 +157,7 @@ impl<A: Allocator> Connection<A> {
         way: Way,
         segment: &StreamSegment<'_>,
         room: usize,
-    ) -> Result<Option<WayStep>, AllocError>
-    where
-        A: Clone,
-    {
+    ) -> Result<Option<WayStep>, AllocError> {
         let step = match way {
             Way::Requests => self.requests.take(segment, room)?,
             Way::Responses => self.responses.take(segment, room)?,

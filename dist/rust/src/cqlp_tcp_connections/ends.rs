@@ -1,7 +1,7 @@
 // Written by dist/erase from crates/cqlp_tcp_connections/src/ends.rt.
 //! The ends of connections, and which way a segment goes between them.
 
-use crate::cqlp_tcp_segment::{Address, Endpoint, SegmentHead};
+use crate::cqlp_tcp_segment::{IpAddress, Endpoint, SegmentHead};
 use std::hash::{Hash, Hasher};
 
 /// The port on which nodes of Apache Cassandra listen for CQL.
@@ -38,8 +38,8 @@ impl Hash for Ends {
 #[inline]
 fn feed_end<H: Hasher>(end: &Endpoint, state: &mut H) {
     match end.address {
-        Address::V4(octets) => state.write_u64(number_of(octets, end.port)),
-        Address::V6(octets) => {
+        IpAddress::V4(octets) => state.write_u64(number_of(octets, end.port)),
+        IpAddress::V6(octets) => {
             state.write_u128(u128::from_be_bytes(octets));
             state.write_u16(end.port);
         }

@@ -1,34 +1,30 @@
 // Written by dist/erase from crates/cqlp_tcp_connections/src/pool.rt.
 //! The connections that are there, and the memory that they share.
 
-use crate::kit_host::prelude::{AllocGlobal, Clone, ToCopy};
 use crate::cqlp_tcp_connections::connection::Connection;
 use crate::cqlp_tcp_connections::delivery::{Admission, Delivery, between};
 use crate::cqlp_tcp_connections::ends::{Ends, Way};
 use crate::cqlp_tcp_connections::limits::ConnectionLimits;
 use crate::cqlp_tcp_segment::{Segment, SegmentHead};
 use crate::lru::{DefaultHasher, LruCache};
-use crate::kit_std::alloc::{AllocError, Allocator};
+use crate::kit_std::alloc::{AllocError};
 use core::num::NonZeroUsize;
 
 /// The connections that are there, the one whose segment came last first, and what they hold of what came early.
-pub(crate) struct Pool<A: Allocator> {
+pub(crate) struct Pool {
     limits: ConnectionLimits,
-    cache: LruCache<Ends, Connection<A>, DefaultHasher, A>,
+    cache: LruCache<Ends, Connection, DefaultHasher>,
     /// How much all hold of what came early.
     early: usize,
 }
 
-impl<A: Allocator> Pool<A> {
+impl Pool {
     /// A pool without connections. It takes memory as they come.
-    pub(crate) fn new(alloc: A, limits: ConnectionLimits) -> Result<Self, AllocError>
-    where
-        A: Clone,
-    {
+    pub(crate) fn new(limits: ConnectionLimits) -> Result<Self, AllocError> {
         let connections = NonZeroUsize::new(limits.connections as usize).unwrap_or(
             NonZeroUsize::MIN,
         );
-        let cache = LruCache::sparse(alloc, connections)?;
+        let cache = LruCache::sparse(connections)?;
         Ok(Pool {
             limits,
             cache,
@@ -72,17 +68,13 @@ impl<A: Allocator> Pool<A> {
     }
 
     /// The first one.
-    pub(crate) fn first(&self) -> Option<(&Ends, &Connection<A>)> {
+    pub(crate) fn first(&self) -> Option<(&Ends, &Connection)> {
         self.cache.peek_mru()
     }
 
     /// Puts a connection before the others, between ends that have none. Nothing was reported of it, and a segment went this way.
-    pub(crate) fn add(&mut self, ends: Ends, number: u64, way: Way) -> Result<(), AllocError>
-    where
-        A: Clone,
-    {
-        let alloc = self.cache.allocator().to_copy()?;
-        let mut connection = Connection::new(alloc, number)?;
+    pub(crate) fn add(&mut self, ends: Ends, number: u64, way: Way) -> Result<(), AllocError> {
+        let mut connection = Connection::new(number)?;
         connection.count_segment(way);
         self.cache.put(ends, connection)?;
         Ok(())
@@ -101,10 +93,7 @@ impl<A: Allocator> Pool<A> {
         way: Way,
         segment: &Segment<'_>,
         time: Option<u64>,
-    ) -> Result<Option<Delivery>, AllocError>
-    where
-        A: Clone,
-    {
+    ) -> Result<Option<Delivery>, AllocError> {
         let room = self.room();
         let Some(ends) = self.first_ends() else {
             return Ok(None);

@@ -1,23 +1,23 @@
 // Written by dist/erase from crates/cqlp_tcp_connections/src/ports.rt.
 //! For each port, how many segments had it.
 
-use crate::kit_host::prelude::{AllocGlobal, Vec};
+use crate::kit_host::prelude::{KitVec, Vec};
 use crate::cqlp_tcp_segment::SegmentHead;
-use crate::kit_std::alloc::{AllocError, Allocator};
+use crate::kit_std::alloc::{AllocError};
 
 /// How many ports there are.
 const PORTS: usize = 65_536;
 
 /// For each port, how many segments had it.
-pub(crate) struct PortCounts<A: Allocator> {
-    counts: Vec<u64, A>,
+pub(crate) struct PortCounts {
+    counts: Vec<u64>,
 }
 
-impl<A: Allocator> PortCounts<A> {
+impl PortCounts {
     /// Where no segment had any. It takes 512 KiB.
-    pub(crate) fn new(alloc: A) -> Result<Self, AllocError> {
-        let mut counts = Vec::new(alloc);
-        counts.resize(PORTS, 0)?;
+    pub(crate) fn new() -> Result<Self, AllocError> {
+        let mut counts = Vec::new();
+        counts.kit_resize(PORTS, 0)?;
         Ok(PortCounts { counts })
     }
 

@@ -1,11 +1,10 @@
 // Written by dist/erase from crates/cqlp_tcp_connections/src/side.rt.
 //! One direction of a connection, and what was reported of it.
 
-use crate::kit_host::prelude::{AllocGlobal, Clone};
 use crate::cqlp_tcp_connections::tally::Tally;
 use crate::cqlp_tcp_connections::totals::DirectionTotals;
 use crate::cqlp_tcp_reassembly::{Stream, StreamSegment, StreamStep};
-use crate::kit_std::alloc::{AllocError, Allocator};
+use crate::kit_std::alloc::{AllocError};
 
 /// What a stream reports, and after how many bytes and bytes of gaps.
 #[derive(Clone, Copy)]
@@ -15,16 +14,16 @@ pub(crate) struct SideStep {
 }
 
 /// One direction of a connection.
-pub(crate) struct Side<A: Allocator> {
-    stream: Stream<A>,
+pub(crate) struct Side {
+    stream: Stream,
     totals: Tally,
 }
 
-impl<A: Allocator> Side<A> {
+impl Side {
     /// A direction of which nothing was reported. It takes no memory.
-    pub(crate) fn new(alloc: A) -> Self {
+    pub(crate) fn new() -> Self {
         Side {
-            stream: Stream::new(alloc),
+            stream: Stream::new(),
             totals: Tally::new(),
         }
     }
@@ -50,10 +49,7 @@ impl<A: Allocator> Side<A> {
         &mut self,
         segment: &StreamSegment<'_>,
         room: usize,
-    ) -> Result<SideStep, AllocError>
-    where
-        A: Clone,
-    {
+    ) -> Result<SideStep, AllocError> {
         let at = self.totals.position();
         let step = self.stream.take(segment, room)?;
         if let StreamStep::Began { syn } = step {

@@ -1,7 +1,7 @@
 // Written by dist/erase from crates/cqlp_tcp_connections/src/table.rt.
 //! The table of connections.
 
-use crate::kit_host::prelude::{AllocGlobal, Clone, ToCopy, Vec};
+use crate::kit_host::prelude::{KitVec, Vec};
 use crate::cqlp_tcp_connections::delivery::{Admission, Delivery, Departure};
 use crate::cqlp_tcp_connections::ends::{Way, ends_of, first_way};
 use crate::cqlp_tcp_connections::limits::{ConnectionLimits, NewConnectionsError};
@@ -10,7 +10,7 @@ use crate::cqlp_tcp_connections::ports::PortCounts;
 use crate::cqlp_tcp_connections::totals::ConnectionCounts;
 use crate::cqlp_tcp_reassembly::{GapCause, StreamStep};
 use crate::cqlp_tcp_segment::{Segment, SegmentHead};
-use crate::kit_std::alloc::{AllocError, Allocator, Global};
+use crate::kit_std::alloc::{AllocError};
 
 /// The connections of a capture, of which there are at most as many at one time as the caller's limit says.
 ///
@@ -19,46 +19,39 @@ use crate::kit_std::alloc::{AllocError, Allocator, Global};
 /// it still has, until it says `Left`. At the end of the file `finish` does so for all that are there, until it says `Empty`.
 ///
 /// Memory is taken as connections and early bytes come, and given back. A connection that holds nothing takes less than 300 bytes.
-pub struct Connections<A: Allocator = Global> {
-    ports: Vec<u16, A>,
-    pool: Pool<A>,
+pub struct Connections {
+    ports: Vec<u16>,
+    pool: Pool,
     counts: ConnectionCounts,
     /// For each port, how many segments had it of which neither port is asked for.
-    foreign: PortCounts<A>,
+    foreign: PortCounts,
     /// Whether the first connection has begun to leave.
     leaving: bool,
 }
 
-impl<A: Allocator> Connections<A> {
+impl Connections {
     /// A table without connections, for nodes that listen on one of these ports. It takes 512 KiB, to count segments by port.
     ///
     /// # Errors
     ///
     /// A limit that is out of range, and memory that is refused.
     pub fn new(
-        alloc: A,
         limits: ConnectionLimits,
         ports: &[u16],
-    ) -> Result<Self, NewConnectionsError>
-    where
-        A: Clone,
-    {
+    ) -> Result<Self, NewConnectionsError> {
         if !limits.is_in_range() {
             return Err(NewConnectionsError::BadLimits);
         }
-        match Self::with_room(alloc, limits, ports) {
+        match Self::with_room(limits, ports) {
             Ok(table) => Ok(table),
             Err(AllocError) => Err(NewConnectionsError::NoMemory),
         }
     }
 
-    fn with_room(alloc: A, limits: ConnectionLimits, ports: &[u16]) -> Result<Self, AllocError>
-    where
-        A: Clone,
-    {
-        let ports = Vec::from_slice(alloc.to_copy()?, ports)?;
-        let foreign = PortCounts::new(alloc.to_copy()?)?;
-        let pool = Pool::new(alloc, limits)?;
+    fn with_room(limits: ConnectionLimits, ports: &[u16]) -> Result<Self, AllocError> {
+        let ports = Vec::from_slice(ports)?;
+        let foreign = PortCounts::new()?;
+        let pool = Pool::new(limits)?;
         Ok(Connections {
             ports,
             pool,
@@ -77,10 +70,7 @@ impl<A: Allocator> Connections<A> {
     /// # Errors
     ///
     /// Memory that is refused for a connection that begins. Then nothing changes.
-    pub fn take(&mut self, head: &SegmentHead) -> Result<Admission, AllocError>
-    where
-        A: Clone,
-    {
+    pub fn take(&mut self, head: &SegmentHead) -> Result<Admission, AllocError> {
         let Some(way) = first_way(&self.ports, head) else {
             self.go_by(head);
             return Ok(Admission::Foreign);
@@ -117,10 +107,7 @@ impl<A: Allocator> Connections<A> {
         &mut self,
         segment: &Segment<'_>,
         time: Option<u64>,
-    ) -> Result<Option<Delivery>, AllocError>
-    where
-        A: Clone,
-    {
+    ) -> Result<Option<Delivery>, AllocError> {
         let Some(way) = self.way_of_first(&segment.head) else {
             return Ok(None);
         };
@@ -208,10 +195,7 @@ impl<A: Allocator> Connections<A> {
     }
 
     /// Begins a connection with a segment that goes this way.
-    fn begin(&mut self, way: Way, head: &SegmentHead) -> Result<Admission, AllocError>
-    where
-        A: Clone,
-    {
+    fn begin(&mut self, way: Way, head: &SegmentHead) -> Result<Admission, AllocError> {
         let number = self.counts.connections.saturating_add(1);
         self.pool.add(ends_of(way, head), number, way)?;
         self.counts.connections = number;

@@ -1,8 +1,8 @@
 // Written by dist/erase from crates/cqlp_tcp_reassembly/src/run.rt.
 //! A part of a segment that came early.
 
-use crate::kit_std::prelude::{Vec};
-use crate::kit_std::alloc::{AllocError, Allocator};
+use crate::kit_std::prelude::{KitVec, Vec};
+use crate::kit_std::alloc::{AllocError};
 
 /// What `size` counts for each part of a segment that is kept, beside its bytes: what it takes beside them at most. That is 56 bytes for its
 /// record, as many where the queue has memory for one more, up to 31 of the allocator, and a share of the queue's own record.
@@ -40,10 +40,10 @@ pub(crate) struct RunSummary {
 }
 
 /// A part that is kept.
-pub(crate) struct Run<A: Allocator> {
+pub(crate) struct Run {
     /// The position of its first byte.
     at: u64,
-    bytes: Vec<u8, A>,
+    bytes: Vec<u8>,
     missing: u64,
     /// When the packet was captured, where that is known.
     time: u64,
@@ -51,11 +51,12 @@ pub(crate) struct Run<A: Allocator> {
     begins: bool,
 }
 
-impl<A: Allocator> Run<A> {
+impl Run {
     /// A copy of this part.
-    pub(crate) fn new(alloc: A, early: EarlyPart<'_>) -> Result<Self, AllocError> {
+    #[cfg_attr(not(feature = "cli"), inline)]
+    pub(crate) fn new(early: EarlyPart<'_>) -> Result<Self, AllocError> {
         let count = early.bytes.len() as u64;
-        let bytes = Vec::from_slice(alloc, early.bytes)?;
+        let bytes = Vec::from_slice(early.bytes)?;
         Ok(Run {
             at: early.part.from,
             bytes,
@@ -67,10 +68,11 @@ impl<A: Allocator> Run<A> {
     }
 
     /// Of no bytes. It takes no memory.
-    pub(crate) fn blank(alloc: A) -> Self {
+    #[cfg_attr(not(feature = "cli"), inline)]
+    pub(crate) fn blank() -> Self {
         Run {
             at: 0,
-            bytes: Vec::new(alloc),
+            bytes: Vec::new(),
             missing: 0,
             time: 0,
             has_time: false,
@@ -79,19 +81,23 @@ impl<A: Allocator> Run<A> {
     }
 
     /// The position of its first byte.
+    #[cfg_attr(not(feature = "cli"), inline)]
     pub(crate) fn at(&self) -> u64 {
         self.at
     }
 
     /// The position behind it.
+    #[cfg_attr(not(feature = "cli"), inline)]
     pub(crate) fn end(&self) -> u64 {
         self.at + self.bytes.len() as u64 + self.missing
     }
 
+    #[cfg_attr(not(feature = "cli"), inline)]
     pub(crate) fn bytes(&self) -> &[u8] {
         self.bytes.as_slice()
     }
 
+    #[cfg_attr(not(feature = "cli"), inline)]
     pub(crate) fn summary(&self) -> RunSummary {
         RunSummary {
             length: self.bytes.len(),
@@ -102,11 +108,13 @@ impl<A: Allocator> Run<A> {
     }
 
     /// What it counts, in the measure of `Stream::size`.
+    #[cfg_attr(not(feature = "cli"), inline)]
     pub(crate) fn size(&self) -> usize {
         self.bytes.len() + RUN_SIZE
     }
 
     /// It, if it begins at this position.
+    #[cfg_attr(not(feature = "cli"), inline)]
     pub(crate) fn summary_at(&self, position: u64) -> Option<RunSummary> {
         if self.at == position {
             Some(self.summary())
@@ -116,6 +124,7 @@ impl<A: Allocator> Run<A> {
     }
 
     /// Its bytes, if it begins at this position.
+    #[cfg_attr(not(feature = "cli"), inline)]
     pub(crate) fn bytes_at(&self, position: u64) -> &[u8] {
         if self.at == position {
             self.bytes.as_slice()
@@ -125,6 +134,7 @@ impl<A: Allocator> Run<A> {
     }
 
     /// The first part from a position on, up to another, that it does not cover. It is empty where it covers all.
+    #[cfg_attr(not(feature = "cli"), inline)]
     pub(crate) fn first_free(&self, from: u64, to: u64) -> Part {
         if from < self.at {
             Part {
@@ -141,11 +151,13 @@ impl<A: Allocator> Run<A> {
         }
     }
 
+    #[cfg_attr(not(feature = "cli"), inline)]
     fn time(&self) -> Option<u64> {
         if self.has_time { Some(self.time) } else { None }
     }
 
     /// Drops its bytes, and goes on behind them.
+    #[cfg_attr(not(feature = "cli"), inline)]
     pub(crate) fn drop_bytes(&mut self) {
         self.at += self.bytes.len() as u64;
         self.bytes.clear();

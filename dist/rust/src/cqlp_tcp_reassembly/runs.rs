@@ -1,32 +1,31 @@
 // Written by dist/erase from crates/cqlp_tcp_reassembly/src/runs.rt.
 //! What came early.
 
-use crate::kit_std::prelude::{Box, Clone};
+use crate::kit_std::prelude::{Box, KitBox, KitVec};
 use crate::cqlp_tcp_reassembly::queue::RunQueue;
 use crate::cqlp_tcp_reassembly::run::{EarlyPart, Part, Run, RunSummary};
-use crate::kit_std::alloc::{AllocError, Allocator};
+use crate::kit_std::alloc::{AllocError};
 use crate::kit_std::collections::VecDeque;
 use core::mem;
 
 /// Parts of segments that came early, by position. None covers another. It has memory only while there are any.
-pub(crate) struct Runs<A: Allocator> {
-    store: Store<A>,
-    alloc: A,
+pub(crate) struct Runs {
+    store: Store,
 }
 
 /// Where they lie: one alone in a box of its own, several in a queue.
-pub(crate) enum Store<A: Allocator> {
+pub(crate) enum Store {
     Empty,
-    Alone { run: Box<Run<A>, A> },
-    Queued { queue: Box<RunQueue<A>, A> },
+    Alone { run: Box<Run> },
+    Queued { queue: Box<RunQueue> },
 }
 
-impl<A: Allocator> Runs<A> {
+impl Runs {
     /// None, without memory.
-    pub(crate) fn new(alloc: A) -> Self {
+    #[cfg_attr(not(feature = "cli"), inline)]
+    pub(crate) fn new() -> Self {
         Runs {
             store: Store::Empty,
-            alloc,
         }
     }
 
@@ -70,6 +69,7 @@ impl<A: Allocator> Runs<A> {
     }
 
     /// Its bytes.
+    #[cfg_attr(not(feature = "cli"), inline)]
     pub(crate) fn bytes_at(&self, position: u64) -> &[u8] {
         match &self.store {
             Store::Empty => &[],
@@ -93,21 +93,19 @@ impl<A: Allocator> Runs<A> {
     /// # Errors
     ///
     /// Memory that is refused. Then nothing changes.
-    pub(crate) fn insert(&mut self, early: EarlyPart<'_>) -> Result<(), AllocError>
-    where
-        A: Clone,
-    {
+    #[cfg_attr(not(feature = "cli"), inline)]
+    pub(crate) fn insert(&mut self, early: EarlyPart<'_>) -> Result<(), AllocError> {
         match &mut self.store {
             Store::Queued { queue } => queue.insert(early),
             Store::Alone { run } => {
-                let queue = queue_with(&self.alloc, run, early)?;
+                let queue = queue_with(run, early)?;
                 self.store = Store::Queued { queue };
                 Ok(())
             }
             Store::Empty => {
-                let run = Run::new(self.alloc.clone()?, early)?;
+                let run = Run::new(early)?;
                 self.store = Store::Alone {
-                    run: Box::new(self.alloc.clone()?, run)?,
+                    run: Box::kit_new(run)?,
                 };
                 Ok(())
             }
@@ -115,6 +113,7 @@ impl<A: Allocator> Runs<A> {
     }
 
     /// Goes on behind the bytes of the first, or where it has none behind all of it.
+    #[cfg_attr(not(feature = "cli"), inline)]
     pub(crate) fn pass_first(&mut self) {
         self.store = match mem::replace(&mut self.store, Store::Empty) {
             Store::Empty => Store::Empty,
@@ -125,28 +124,30 @@ impl<A: Allocator> Runs<A> {
 
     /// Drops all, with their memory.
     #[cold]
+    #[cfg_attr(not(feature = "cli"), inline)]
     pub(crate) fn clear(&mut self) {
         self.store = Store::Empty;
     }
 }
 
 /// A queue of a run, which is moved there, and of a part beside it. Where memory is refused the run stays.
-fn queue_with<A: Allocator + Clone>(
-    alloc: &A,
-    run: &mut Run<A>,
+#[cfg_attr(not(feature = "cli"), inline)]
+fn queue_with(
+    run: &mut Run,
     early: EarlyPart<'_>,
-) -> Result<Box<RunQueue<A>, A>, AllocError> {
-    let mut queue = Box::new(alloc.clone()?, RunQueue::new(alloc.clone()?))?;
-    let mut room = VecDeque::new(alloc.clone()?);
-    room.reserve_exact(2)?;
-    let second = Run::new(alloc.clone()?, early)?;
-    let first = mem::replace(run, Run::blank(alloc.clone()?));
+) -> Result<Box<RunQueue>, AllocError> {
+    let mut queue = Box::kit_new(RunQueue::new())?;
+    let mut room = VecDeque::new();
+    room.kit_reserve_exact(2)?;
+    let second = Run::new(early)?;
+    let first = mem::replace(run, Run::blank());
     *queue = RunQueue::of_two(room, first, second, early.part.index == 0);
     Ok(queue)
 }
 
 /// Behind the bytes of the only one, or all of it.
-fn behind_alone<A: Allocator>(mut run: Box<Run<A>, A>) -> Store<A> {
+#[cfg_attr(not(feature = "cli"), inline)]
+fn behind_alone(mut run: Box<Run>) -> Store {
     let summary = run.summary();
     if summary.length > 0 && summary.missing > 0 {
         run.drop_bytes();
@@ -157,7 +158,8 @@ fn behind_alone<A: Allocator>(mut run: Box<Run<A>, A>) -> Store<A> {
 }
 
 /// Behind the bytes of the first in a queue, or all of it.
-fn behind_queued<A: Allocator>(mut queue: Box<RunQueue<A>, A>) -> Store<A> {
+#[cfg_attr(not(feature = "cli"), inline)]
+fn behind_queued(mut queue: Box<RunQueue>) -> Store {
     queue.pass_first();
     if queue.is_empty() {
         Store::Empty

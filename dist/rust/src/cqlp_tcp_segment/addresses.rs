@@ -3,7 +3,7 @@
 
 /// An address of IP.
 #[derive(Clone, Copy, Debug, PartialEq, Eq, PartialOrd, Ord, Hash)]
-pub enum Address {
+pub enum IpAddress {
     /// The four octets of an IPv4 address.
     V4([u8; 4]),
     /// The sixteen octets of an IPv6 address.
@@ -14,7 +14,7 @@ pub enum Address {
 #[derive(Clone, Copy, Debug, PartialEq, Eq, PartialOrd, Ord, Hash)]
 pub struct Endpoint {
     /// The address of its host, in the header of IP. RFC 791, section 3.1, and RFC 8200, section 3.
-    pub address: Address,
+    pub address: IpAddress,
     /// The port at its host, in the header of TCP. RFC 9293, section 3.1.
     pub port: u16,
 }

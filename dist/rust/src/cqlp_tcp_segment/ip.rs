@@ -1,7 +1,7 @@
 // Written by dist/erase from crates/cqlp_tcp_segment/src/ip.rt.
 //! Headers of IP.
 
-use crate::cqlp_tcp_segment::addresses::Address;
+use crate::cqlp_tcp_segment::addresses::IpAddress;
 use crate::cqlp_tcp_segment::ether_type::{IpPacket, IpVersion};
 use crate::cqlp_tcp_segment::fields::number_16;
 use crate::cqlp_tcp_segment::reason::NoSegment;
@@ -15,8 +15,8 @@ const AUTHENTICATION: u8 = 51;
 /// What a packet of IP carries.
 #[derive(Clone, Copy)]
 pub(crate) struct Carried<'a> {
-    pub source: Address,
-    pub destination: Address,
+    pub source: IpAddress,
+    pub destination: IpAddress,
     /// The number of the protocol of what it carries.
     pub protocol: u8,
     /// How many bytes it carries, by the word of IP's header.
@@ -75,8 +75,8 @@ fn carried_by_4(bytes: &[u8], beyond: usize) -> Result<Carried<'_>, NoSegment> {
         return Err(NoSegment::CutInIp);
     }
     Ok(Carried {
-        source: Address::V4([bytes[12], bytes[13], bytes[14], bytes[15]]),
-        destination: Address::V4([bytes[16], bytes[17], bytes[18], bytes[19]]),
+        source: IpAddress::V4([bytes[12], bytes[13], bytes[14], bytes[15]]),
+        destination: IpAddress::V4([bytes[16], bytes[17], bytes[18], bytes[19]]),
         protocol: bytes[9],
         size: total - header,
         bytes: &bytes[header..],
@@ -104,9 +104,9 @@ fn carried_by_6(bytes: &[u8], beyond: usize) -> Result<Carried<'_>, NoSegment> {
 }
 
 /// The address in these sixteen bytes.
-fn address_6(octets: &[u8]) -> Address {
+fn address_6(octets: &[u8]) -> IpAddress {
     match octets.try_into() {
-        Ok(octets) => Address::V6(octets),
+        Ok(octets) => IpAddress::V6(octets),
         Err(_) => unreachable!(),
     }
 }

@@ -11,7 +11,7 @@ mod segments;
 mod tcp;
 mod tunnels;
 
-pub use addresses::{Address, Endpoint};
+pub use addresses::{IpAddress, Endpoint};
 pub use link::LinkType;
 pub use reason::NoSegment;
 pub use segments::{Segment, SegmentHead, read_segment};

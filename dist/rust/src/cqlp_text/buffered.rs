@@ -10,19 +10,18 @@ use crate::cqlp_text::pen::Pen;
 use crate::cqlp_text::sending::send;
 use crate::cqlp_grammar::SinkFault;
 use crate::cqlp_note::Target;
-use crate::kit_std::alloc::{Allocator, Global};
 
 /// Passes text on to a target in pieces as large as a buffer. Nothing waits after a `flush`, nor after a fault.
-pub struct Buffered<W: Target, A: Allocator = Global> {
+pub struct Buffered<W: Target> {
     target: W,
-    buffer: Vec<u8, A>,
+    buffer: Vec<u8>,
     /// How many bytes of the buffer wait.
     len: usize,
 }
 
-impl<W: Target, A: Allocator> Buffered<W, A> {
+impl<W: Target> Buffered<W> {
     /// With nothing that waits. As much may wait as the buffer is long.
-    pub(crate) fn new(target: W, buffer: Vec<u8, A>) -> Self {
+    pub(crate) fn new(target: W, buffer: Vec<u8>) -> Self {
         Buffered {
             target,
             buffer,
@@ -39,6 +38,7 @@ impl<W: Target, A: Allocator> Buffered<W, A> {
     }
 
     /// The target, which did not get what waits.
+    #[must_use]
     pub fn into_inner(self) -> W {
         let Buffered {
             target,
@@ -82,7 +82,7 @@ impl<W: Target, A: Allocator> Buffered<W, A> {
     }
 }
 
-impl<W: Target, A: Allocator> Pen for Buffered<W, A> {
+impl<W: Target> Pen for Buffered<W> {
     #[inline(always)]
     fn put(&mut self, bytes: &[u8]) -> Result<(), SinkFault> {
         if bytes.len() > self.buffer.len() - self.len {

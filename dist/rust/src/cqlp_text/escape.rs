@@ -1,6 +1,7 @@
 // Written by dist/erase from crates/cqlp_text/src/escape.rt.
 //! The escapes of a text: a quote, a backslash, and each byte that does not print.
 
+use crate::kit_std::prelude::{KitVec};
 use crate::cqlp_text::pen::Pen;
 use crate::cqlp_text::text_writer::TextWriter;
 use crate::cqlp_grammar::SinkFault;

@@ -1,6 +1,7 @@
 // Written by dist/erase from crates/cqlp_text/src/page_text.rt.
 //! Pages as text.
 
+use crate::kit_std::prelude::{KitVec};
 use crate::cqlp_text::digits::SHORT;
 use crate::cqlp_text::gap::Gap;
 use crate::cqlp_text::line_pen::LinePen;
@@ -245,11 +246,11 @@ impl PagePlace {
     #[inline]
     fn enter(&mut self, column: u32, kind: Kind) {
         self.pass_item(column);
-        self.push(kind);
+        self.kit_push(kind);
     }
 
     #[inline]
-    fn push(&mut self, kind: Kind) {
+    fn kit_push(&mut self, kind: Kind) {
         if self.free == 0 {
             return;
         }

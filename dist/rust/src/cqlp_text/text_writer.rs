@@ -7,7 +7,6 @@ use crate::cqlp_text::line_pen::LinePen;
 use crate::cqlp_text::pen::Pen;
 use crate::cqlp_grammar::SinkFault;
 use crate::cqlp_note::Target;
-use crate::kit_std::alloc::Allocator;
 
 /// Writes texts with a pen.
 pub struct TextWriter<P: Pen> {
@@ -76,7 +75,7 @@ impl<'a, W: Target> TextWriter<LinePen<'a, W>> {
     }
 }
 
-impl<W: Target, A: Allocator> TextWriter<Buffered<W, A>> {
+impl<W: Target> TextWriter<Buffered<W>> {
     /// Passes on all that waits in the buffer; after a fault nothing waits either.
     pub fn pass_on(&mut self) -> Result<(), SinkFault> {
         self.pen.flush()

@@ -1,7 +1,7 @@
 // Written by dist/erase from crates/cqlp_tool/src/command_line.rt.
 //! The command line, from its words to the exit status.
 
-use crate::kit_host::prelude::{AllocGlobal, Vec};
+use crate::kit_host::prelude::{Vec};
 use crate::cqlp_tool::capture_files::{CaptureFiles, MorePaths};
 use crate::cqlp_tool::conversing::converse;
 use crate::cqlp_tool::folder::{Folder, is_folder};
@@ -31,7 +31,6 @@ use crate::cqlp_row_text::TablePlace;
 use crate::cqlp_statement_file::StatementTexts;
 use crate::cqlp_text::exit_status::{BAD_COMMAND_LINE, DONE, FAULT};
 use crate::cqlp_text::{Ending, PagePlace, cannot_open_line, put_text};
-use crate::kit_std::alloc::Allocator;
 use crate::kit_host::fs::{self, File, Metadata, OpenFile};
 use std::io;
 use crate::kit_host::net::{Net, TcpListener, TcpStream};
@@ -52,7 +51,7 @@ pub fn command<R, I: CaptureInput, O: Target, E: Target>(
     err: E,
 ) -> (u8, O, E)
 where
-    R: Files + Net<Listener = TcpListener, Stream = TcpStream> + AllocGlobal,
+    R: Files + Net<Listener = TcpListener, Stream = TcpStream>,
 {
     let mut nowhere: Option<OfStd<Vec<u8>>> = None;
     command_with_notes(rt, words, input, out, err, &mut nowhere)
@@ -69,12 +68,12 @@ pub fn command_with_notes<R, I: CaptureInput, O: Target, E: Target, N: Target>(
     notes: &mut Option<N>,
 ) -> (u8, O, E)
 where
-    R: Files + Net<Listener = TcpListener, Stream = TcpStream> + AllocGlobal,
+    R: Files + Net<Listener = TcpListener, Stream = TcpStream>,
 {
     if words.is_empty() {
-        return show(&rt.alloc(), DEFAULT_LIMITS, input, out, err);
+        return show(DEFAULT_LIMITS, input, out, err);
     }
-    let line = CommandLine::parse(rt.alloc(), words);
+    let line = CommandLine::parse(words);
     execute(rt, line, input, out, err, notes)
 }
 
@@ -89,7 +88,7 @@ pub(crate) fn execute<R, I: CaptureInput, O: Target, E: Target, N: Target>(
     notes: &mut Option<N>,
 ) -> (u8, O, E)
 where
-    R: Files + Net<Listener = TcpListener, Stream = TcpStream> + AllocGlobal,
+    R: Files + Net<Listener = TcpListener, Stream = TcpStream>,
 {
     match line {
         Ok(CommandLine::Stream(options)) => stream(rt, options, input, out, err),
@@ -101,19 +100,18 @@ where
 }
 
 /// Does the task with a stream: standard input, or a file that is opened.
-fn stream<R: Files + AllocGlobal, I: Source, O: Target, E: Target>(
+fn stream<R: Files, I: Source, O: Target, E: Target>(
     rt: &R,
     options: Options<'_>,
     input: &mut I,
     out: O,
     err: E,
 ) -> (u8, O, E) {
-    let heap = rt.alloc();
     if options.file == "-" {
-        return perform(&heap, options, input, out, err);
+        return perform(options, input, out, err);
     }
     match File::open(rt, options.file) {
-        Ok(file) => perform(&heap, options, &mut OfStd::new(file), out, err),
+        Ok(file) => perform(options, &mut OfStd::new(file), out, err),
         Err(_) => {
             let (status, err) = cannot_open(options.file, err);
             (status, out, err)
@@ -122,7 +120,7 @@ fn stream<R: Files + AllocGlobal, I: Source, O: Target, E: Target>(
 }
 
 /// Reads the texts of statements that are asked for, and does the task with a capture.
-fn capture<R: Files + AllocGlobal, I: CaptureInput, O: Target, E: Target, N: Target>(
+fn capture<R: Files, I: CaptureInput, O: Target, E: Target, N: Target>(
     rt: &R,
     options: CaptureOptions<'_>,
     input: &mut I,
@@ -151,7 +149,7 @@ fn capture_knowing<'a, R, I: CaptureInput, O: Target, E: Target, N: Target>(
     notes: &mut Option<N>,
 ) -> (u8, O, E)
 where
-    R: Files + AllocGlobal,
+    R: Files,
 {
     if let Some(folder) = missing_folder(rt, options.task) {
         let (status, err) = cannot_open(folder, err);
@@ -185,7 +183,7 @@ where
 }
 
 /// Does the task with the captures whose paths the input names, a line each, as their lines come.
-fn follow<'a, R: Files + AllocGlobal, I: CaptureInput, O: Target, E: Target>(
+fn follow<'a, R: Files, I: CaptureInput, O: Target, E: Target>(
     rt: &'a R,
     options: &CaptureOptions<'_>,
     given: StatementTexts,
@@ -231,7 +229,7 @@ fn or_none_named(path: &str) -> &str {
 }
 
 /// Opens files of summaries, and adds these.
-fn merge<'a, R: Files + AllocGlobal, I: CaptureInput, O: Target, E: Target>(
+fn merge<'a, R: Files, I: CaptureInput, O: Target, E: Target>(
     rt: &'a R,
     options: MergeOptions<'a>,
     input: &mut I,
@@ -242,7 +240,7 @@ fn merge<'a, R: Files + AllocGlobal, I: CaptureInput, O: Target, E: Target>(
     let form = merged_as(options.form);
     let more = options.more.as_slice();
     if first == "-" {
-        return merge_summaries(rt.alloc(), FileNames { first, more }, form, input, out, err);
+        return merge_summaries(FileNames { first, more }, form, input, out, err);
     }
     let Ok(file) = File::open(rt, first) else {
         let (status, err) = cannot_open(first, err);
@@ -254,7 +252,6 @@ fn merge<'a, R: Files + AllocGlobal, I: CaptureInput, O: Target, E: Target>(
     }
     let mut files: CaptureFiles<'_, R, I> = CaptureFiles::new(rt, file, MorePaths::Named(more));
     merge_summaries(
-        rt.alloc(),
         FileNames { first, more },
         form,
         &mut files,
@@ -335,7 +332,7 @@ fn regular_length(metadata: io::Result<Metadata>) -> Option<u64> {
 }
 
 /// Does the task with a capture, whose folder is there if it asks for one, where these texts of statements are known.
-fn read_capture<R: Files + AllocGlobal, I: CaptureInput, O: Target, E: Target>(
+fn read_capture<R: Files, I: CaptureInput, O: Target, E: Target>(
     rt: &R,
     options: &CaptureOptions<'_>,
     given: StatementTexts,
@@ -352,7 +349,6 @@ fn read_capture<R: Files + AllocGlobal, I: CaptureInput, O: Target, E: Target>(
         }
         CaptureTask::Exchanges(asked) => {
             write_exchanges(
-                rt.alloc(),
                 limits,
                 exchange_limits_of(&options.limits),
                 ports,
@@ -366,16 +362,16 @@ fn read_capture<R: Files + AllocGlobal, I: CaptureInput, O: Target, E: Target>(
             )
         }
         CaptureTask::Events { connection } => {
-            write_events(rt.alloc(), limits, ports, connection, input, out, err)
+            write_events(limits, ports, connection, input, out, err)
         }
         CaptureTask::Rows { connection } => {
-            write_rows(rt.alloc(), limits, ports, connection, input, out, err)
+            write_rows(limits, ports, connection, input, out, err)
         }
     }
 }
 
 /// Splits a capture into the streams of its connections, whose files are made in the folder.
-fn split_to_folder<R: Files + AllocGlobal, I: CaptureInput, O: Target, E: Target>(
+fn split_to_folder<R: Files, I: CaptureInput, O: Target, E: Target>(
     rt: &R,
     folder: &str,
     limits: StreamsLimits,
@@ -384,8 +380,8 @@ fn split_to_folder<R: Files + AllocGlobal, I: CaptureInput, O: Target, E: Target
     out: O,
     err: E,
 ) -> (u8, O, E) {
-    let folder = Folder::new(rt, rt.alloc(), folder);
-    let (status, _, out, err) = write_streams(rt.alloc(), limits, ports, input, folder, out, err);
+    let folder = Folder::new(rt, folder);
+    let (status, _, out, err) = write_streams(limits, ports, input, folder, out, err);
     (status, out, err)
 }
 
@@ -493,8 +489,7 @@ fn summary_by(asked: AskedBy) -> SummaryBy {
 }
 
 /// Does the task with a stream.
-fn perform<A: Allocator, I: Source, O: Target, E: Target>(
-    heap: &A,
+fn perform<I: Source, O: Target, E: Target>(
     options: Options<'_>,
     input: &mut I,
     out: O,
@@ -503,19 +498,19 @@ fn perform<A: Allocator, I: Source, O: Target, E: Target>(
     let (limits, lenient) = (options.limits, options.lenient);
     match options.task {
         Task::Show(form, AtRefusal::End) => {
-            show_as(heap, limits, lenient, form_of_events(form), input, out, err)
+            show_as(limits, lenient, form_of_events(form), input, out, err)
         }
         Task::Show(form, AtRefusal::Skip) => {
-            show_skipping(heap, limits, lenient, form_of_events(form), input, out, err)
+            show_skipping(limits, lenient, form_of_events(form), input, out, err)
         }
         Task::Rows(form, AtRefusal::End) => {
-            show_as(heap, limits, lenient, form_of_rows(form), input, out, err)
+            show_as(limits, lenient, form_of_rows(form), input, out, err)
         }
         Task::Rows(form, AtRefusal::Skip) => {
-            show_skipping(heap, limits, lenient, form_of_rows(form), input, out, err)
+            show_skipping(limits, lenient, form_of_rows(form), input, out, err)
         }
-        Task::Check(AtRefusal::End) => check(heap, limits, lenient, input, out, err),
-        Task::Check(AtRefusal::Skip) => check_skipping(heap, limits, lenient, input, out, err),
+        Task::Check(AtRefusal::End) => check(limits, lenient, input, out, err),
+        Task::Check(AtRefusal::Skip) => check_skipping(limits, lenient, input, out, err),
     }
 }
 

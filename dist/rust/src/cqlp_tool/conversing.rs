@@ -1,7 +1,6 @@
 // Written by dist/erase from crates/cqlp_tool/src/conversing.rt.
 //! A conversation over a connection of the program with itself.
 
-use crate::kit_host::prelude::{AllocGlobal};
 use crate::cqlp_tool::connection::Connection;
 use crate::cqlp_loop::{LoopFault, Socket, talk};
 use crate::cqlp_note::{IoFault, OfStd, Target};
@@ -15,7 +14,7 @@ use crate::kit_host::net::{Net, TcpListener, TcpStream};
 /// and the two outputs.
 pub fn converse<R, O: Target, E: Target>(rt: &R, queries: u16, mut out: O, err: E) -> (u8, O, E)
 where
-    R: Net<Listener = TcpListener, Stream = TcpStream> + AllocGlobal,
+    R: Net<Listener = TcpListener, Stream = TcpStream>,
 {
     match talk_with_itself(rt, queries, &mut out) {
         Ok(()) => (DONE, out, err),
@@ -29,7 +28,7 @@ where
 /// Has the two ends of a new connection talk.
 fn talk_with_itself<R, O: Target>(rt: &R, queries: u16, out: &mut O) -> Result<(), LoopFault>
 where
-    R: Net<Listener = TcpListener, Stream = TcpStream> + AllocGlobal,
+    R: Net<Listener = TcpListener, Stream = TcpStream>,
 {
     let Connection { near, far } = match Connection::new(rt) {
         Ok(connection) => connection,
@@ -43,7 +42,7 @@ where
         source: OfStd::new(&far),
         target: OfStd::new(&far),
     };
-    talk(rt.alloc(), queries, &mut client, &mut server, out)
+    talk(queries, &mut client, &mut server, out)
 }
 
 /// How the command ends where a conversation ends early.

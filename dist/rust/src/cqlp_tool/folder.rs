@@ -1,10 +1,10 @@
 // Written by dist/erase from crates/cqlp_tool/src/folder.rt.
 //! A folder for the files of connections.
 
-use crate::kit_host::prelude::{AllocGlobal, String, Vec, format};
+use crate::kit_host::prelude::{KitVec, String, Vec, format};
 use crate::cqlp_capture_streams::{FileFault, StreamFile, StreamFiles};
 use crate::cqlp_tcp_connections::Way;
-use crate::kit_std::alloc::{AllocError, Global};
+use crate::kit_std::alloc::{AllocError};
 use crate::kit_std::collections::BTreeMap;
 use crate::kit_host::fs::{self, File, OpenOptions};
 use std::io::{self, ErrorKind, Write};
@@ -19,7 +19,6 @@ const MOST: usize = 16_777_216;
 /// Where files are made and written, each of which is open only for that long.
 struct Site<'a, R: Files> {
     rt: &'a R,
-    alloc: Global,
     path: &'a str,
 }
 
@@ -51,13 +50,13 @@ impl<R: Files> Site<'_, R> {
             Way::Requests => "requests",
             Way::Responses => "responses",
         };
-        format!(in self.alloc; "{path}/{number}.{way}.bin")
+        format!("{path}/{number}.{way}.bin")
     }
 
     /// The path of a file that is not whole yet.
     fn part_of(&self, file: StreamFile) -> Result<String, AllocError> {
         let path = self.path_of(file)?;
-        format!(in self.alloc; "{path}.part")
+        format!("{path}.part")
     }
 
     /// Makes a file, which is empty.
@@ -126,7 +125,7 @@ fn put<R: Files>(
         return begin(site, waiting, file, bytes);
     };
     let room = before.capacity();
-    let Ok(()) = before.extend_from_slice(bytes) else {
+    let Ok(()) = before.kit_extend_from_slice(bytes) else {
         return Err(FileFault::NoMemory);
     };
     if before.len() >= ROOM {
@@ -147,7 +146,7 @@ fn begin<R: Files>(
         site.write(file, bytes)?;
         return Ok(0);
     }
-    let Ok(first) = Vec::from_slice(site.alloc, bytes) else {
+    let Ok(first) = Vec::from_slice(bytes) else {
         return Err(FileFault::NoMemory);
     };
     let room = first.capacity();
@@ -188,11 +187,11 @@ fn write_last<R: Files>(
 }
 
 impl<'a, R: Files> Folder<'a, R> {
-    pub(crate) fn new(rt: &'a R, alloc: Global, path: &'a str) -> Self {
+    pub(crate) fn new(rt: &'a R, path: &'a str) -> Self {
         Folder {
-            site: Site { rt, alloc, path },
-            requests: BTreeMap::new(alloc),
-            responses: BTreeMap::new(alloc),
+            site: Site { rt, path },
+            requests: BTreeMap::new(),
+            responses: BTreeMap::new(),
             held: 0,
         }
     }

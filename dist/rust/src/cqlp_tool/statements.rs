@@ -1,7 +1,6 @@
 // Written by dist/erase from crates/cqlp_tool/src/statements.rt.
 //! Texts of statements from a file.
 
-use crate::kit_host::prelude::{AllocGlobal};
 use crate::cqlp_tool::command_line::cannot_open;
 use crate::cqlp_decode::SinkFault;
 use crate::cqlp_note::{OfStd, Target};
@@ -27,22 +26,22 @@ pub(crate) enum NoTexts<'a> {
 }
 
 /// The texts in the file that is asked for, and none where none is.
-pub(crate) fn texts_for<'a, R: Files + AllocGlobal>(
+pub(crate) fn texts_for<'a, R: Files>(
     rt: &R,
     asked: Option<&'a str>,
 ) -> Result<StatementTexts, NoTexts<'a>> {
     match asked {
         Some(file) => texts_in(rt, file),
-        None => Ok(StatementTexts::new(rt.alloc())),
+        None => Ok(StatementTexts::new()),
     }
 }
 
-fn texts_in<'a, R: Files + AllocGlobal>(
+fn texts_in<'a, R: Files>(
     rt: &R,
     file: &'a str,
 ) -> Result<StatementTexts, NoTexts<'a>> {
     match File::open(rt, file) {
-        Ok(opened) => match read_statements(rt.alloc(), &mut OfStd::new(opened)) {
+        Ok(opened) => match read_statements(&mut OfStd::new(opened)) {
             Ok(texts) => Ok(texts),
             Err(fault) => Err(NoTexts::Fault { file, fault }),
         },

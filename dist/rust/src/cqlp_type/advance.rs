@@ -4,7 +4,6 @@
 use crate::cqlp_type::item::TypeItem;
 use crate::cqlp_kind::Kind;
 use crate::cqlp_note::{Field, FieldOutline, Partial, Prim, Refusal};
-use crate::kit_std::alloc::Allocator;
 
 /// A part of a type option, or where its text lies.
 #[derive(Clone, Copy)]
@@ -35,7 +34,8 @@ pub enum TypeAdvance {
 
 impl TypeOutline {
     /// The part, with its text lent from where it lies.
-    pub(crate) fn lend<'a, B: Allocator>(self, partial: &'a Partial<B>, input: &'a [u8]) -> TypeItem<'a> {
+    #[cfg_attr(not(feature = "cli"), inline)]
+    pub(crate) fn lend<'a>(self, partial: &'a Partial, input: &'a [u8]) -> TypeItem<'a> {
         match self {
             TypeOutline::Node(kind) => TypeItem::Node(kind),
             TypeOutline::Count(count) => TypeItem::Count(count),

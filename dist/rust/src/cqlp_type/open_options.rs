@@ -1,9 +1,8 @@
 // Written by dist/erase from crates/cqlp_type/src/open_options.rt.
 //! The options around the one that is read.
 
-use crate::kit_std::prelude::{Vec};
+use crate::kit_std::prelude::{KitVec, Vec};
 use crate::cqlp_note::NoMemory;
-use crate::kit_std::alloc::Allocator;
 
 /// An option whose inner options are read.
 #[derive(Clone, Copy)]
@@ -28,39 +27,45 @@ pub(crate) enum NextOption {
 }
 
 /// The options around the one that is read, the outermost first.
-pub(crate) struct OpenOptions<A: Allocator> {
-    options: Vec<OpenOption, A>,
+pub(crate) struct OpenOptions {
+    options: Vec<OpenOption>,
     room: u32,
 }
 
-impl<A: Allocator> OpenOptions<A> {
+impl OpenOptions {
     /// With room for this many.
-    pub(crate) fn new(alloc: A, room: u32) -> Result<Self, NoMemory> {
+    #[cfg_attr(not(feature = "cli"), inline)]
+    pub(crate) fn new(room: u32) -> Result<Self, NoMemory> {
         Ok(OpenOptions {
-            options: Vec::with_capacity(alloc, room as usize)?,
+            options: Vec::kit_with_capacity(room as usize)?,
             room,
         })
     }
 
+    #[cfg_attr(not(feature = "cli"), inline)]
     pub(crate) fn len(&self) -> u32 {
         self.options.len() as u32
     }
 
     /// How many options its memory has places for: the room, for as long as it lives.
+    #[cfg_attr(not(feature = "cli"), inline)]
     pub(crate) fn capacity(&self) -> usize {
         self.options.capacity()
     }
 
+    #[cfg_attr(not(feature = "cli"), inline)]
     pub(crate) fn clear(&mut self) {
         self.options.clear();
     }
 
     /// Begins the inner options of the option that begins at this node.
-    pub(crate) fn push(&mut self, node: u32, named: bool, left: u16) {
+    #[cfg_attr(not(feature = "cli"), inline)]
+    pub(crate) fn kit_push(&mut self, node: u32, named: bool, left: u16) {
         self.options.push_reserved(OpenOption { node, named, left });
     }
 
     /// What comes next, which is no longer left then.
+    #[cfg_attr(not(feature = "cli"), inline)]
     pub(crate) fn next(&mut self) -> NextOption {
         let Some(option) = self.options.pop() else {
             return NextOption::Nothing;

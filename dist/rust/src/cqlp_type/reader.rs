@@ -7,11 +7,10 @@ use crate::cqlp_type::open_options::OpenOptions;
 use crate::cqlp_type::remaining::{OptionStage, Remaining};
 use crate::cqlp_type::table::TypeTable;
 use crate::cqlp_note::{Asked, FieldAdvance, Limits, NoMemory, Notation, Partial, Refusal};
-use crate::kit_std::alloc::{Allocator, Global};
 
 /// Reads type options, one at a time. Its texts are read in the caller's `Partial`, and its types go into the caller's
 /// table.
-pub struct TypeReader<A: Allocator = Global> {
+pub struct TypeReader {
     limits: Asked,
     /// The offset of the item that is read now.
     at: u64,
@@ -21,17 +20,19 @@ pub struct TypeReader<A: Allocator = Global> {
     begun: bool,
     /// How many of its bytes have come.
     taken: u64,
-    remaining: Remaining<A>,
+    remaining: Remaining,
 }
 
-impl<A: Allocator> TypeReader<A> {
+impl TypeReader {
     /// With room for the nesting that the limits allow.
-    pub fn new(alloc: A, limits: &Limits) -> Result<Self, NoMemory> {
-        Self::asked(alloc, &Asked::new(limits, false))
+    #[cfg_attr(not(feature = "cli"), inline)]
+    pub fn new(limits: &Limits) -> Result<Self, NoMemory> {
+        Self::asked(&Asked::new(limits, false))
     }
 
     /// The same, where the caller may ask for a lenient reading.
-    pub fn asked(alloc: A, limits: &Asked) -> Result<Self, NoMemory> {
+    #[cfg_attr(not(feature = "cli"), inline)]
+    pub fn asked(limits: &Asked) -> Result<Self, NoMemory> {
         Ok(TypeReader {
             limits: *limits,
             at: 0,
@@ -40,12 +41,13 @@ impl<A: Allocator> TypeReader<A> {
             taken: 0,
             remaining: Remaining {
                 stage: OptionStage::Idle,
-                open_options: OpenOptions::new(alloc, limits.depth)?,
+                open_options: OpenOptions::new(limits.depth)?,
             },
         })
     }
 
     /// Begins an option at an offset, in a frame that ends at another. It may be read into any table of whole types.
+    #[cfg_attr(not(feature = "cli"), inline)]
     pub(crate) fn begin(&mut self, at: u64, end: u64) {
         self.at = at;
         self.end = end;
@@ -56,30 +58,39 @@ impl<A: Allocator> TypeReader<A> {
     }
 
     /// Whether an option is under way and whole, so that the next push says so.
+    #[cfg_attr(not(feature = "cli"), inline)]
+    #[must_use]
     pub fn done(&self) -> bool {
         matches!(self.remaining.stage, OptionStage::Done)
     }
 
     /// How many options are open around the one that is read.
+    #[cfg_attr(not(feature = "cli"), inline)]
+    #[must_use]
     pub fn held(&self) -> u32 {
         self.remaining.open_options.len()
     }
 
     /// How many open options its memory has places for: as many as the limits allow, for as long as it lives.
+    #[cfg_attr(not(feature = "cli"), inline)]
+    #[must_use]
     pub fn capacity(&self) -> usize {
         self.remaining.open_options.capacity()
     }
 
     /// The offset of the first byte of what is read now.
+    #[cfg_attr(not(feature = "cli"), inline)]
+    #[must_use]
     pub fn offset(&self) -> u64 {
         self.at
     }
 
     /// Takes the next bytes of the option that is under way, whose nodes are in the table.
-    pub(crate) fn advance<B: Allocator, C: Allocator>(
+    #[cfg_attr(not(feature = "cli"), inline)]
+    pub(crate) fn advance(
         &mut self,
-        partial: &mut Partial<B>,
-        table: &mut TypeTable<C>,
+        partial: &mut Partial,
+        table: &mut TypeTable,
         input: &[u8],
     ) -> TypeAdvance {
         if let OptionStage::Done = self.remaining.stage {
@@ -118,10 +129,11 @@ impl<A: Allocator> TypeReader<A> {
     ///
     /// The `Partial` comes first: what is lent may be its own, and a clause says what the first parameter is once that
     /// loan has ended.
-    pub(crate) fn push<'a, B: Allocator, C: Allocator>(
-        partial: &'a mut Partial<B>,
+    #[cfg_attr(not(feature = "cli"), inline)]
+    pub(crate) fn push<'a>(
+        partial: &'a mut Partial,
         reader: &mut Self,
-        table: &mut TypeTable<C>,
+        table: &mut TypeTable,
         input: &'a [u8],
     ) -> TypePush<'a> {
         match reader.advance(partial, table, input) {
@@ -137,7 +149,8 @@ impl<A: Allocator> TypeReader<A> {
     }
 
     /// Begins the item, unless it has begun.
-    fn begin_item<B: Allocator>(&mut self, partial: &mut Partial<B>) {
+    #[cfg_attr(not(feature = "cli"), inline)]
+    fn begin_item(&mut self, partial: &mut Partial) {
         if self.begun {
             return;
         }
@@ -151,6 +164,7 @@ impl<A: Allocator> TypeReader<A> {
     }
 
     /// Ends the option, whole or not.
+    #[cfg_attr(not(feature = "cli"), inline)]
     pub fn stop(&mut self) {
         self.begun = false;
         self.taken = 0;

@@ -1,12 +1,12 @@
 // Written by dist/erase from crates/cqlp_type/src/remaining.rt.
 //! What is still to be read of a type option.
 
+use crate::kit_std::prelude::{KitVec};
 use crate::cqlp_type::advance::TypeOutline;
 use crate::cqlp_type::open_options::{NextOption, OpenOptions};
 use crate::cqlp_type::table::TypeTable;
 use crate::cqlp_kind::{Kind, Node};
 use crate::cqlp_note::{Asked, Field, FieldOutline, Prim, Reason};
-use crate::kit_std::alloc::Allocator;
 
 /// What of an option is read now.
 #[derive(Clone, Copy)]
@@ -30,18 +30,19 @@ pub(crate) enum OptionStage {
 }
 
 /// What is still to be read of a type option: what is read now, and what is left of the options around it.
-pub(crate) struct Remaining<A: Allocator> {
+pub(crate) struct Remaining {
     pub(crate) stage: OptionStage,
-    pub(crate) open_options: OpenOptions<A>,
+    pub(crate) open_options: OpenOptions,
 }
 
-impl<A: Allocator> Remaining<A> {
+impl Remaining {
     /// Goes on after an item: what part of the option it is, or why its type is refused.
-    pub(crate) fn follow<C: Allocator>(
+    #[cfg_attr(not(feature = "cli"), inline)]
+    pub(crate) fn follow(
         &mut self,
         limits: &Asked,
         item: FieldOutline,
-        table: &mut TypeTable<C>,
+        table: &mut TypeTable,
     ) -> Result<TypeOutline, Reason> {
         match self.stage {
             OptionStage::Idle | OptionStage::Done => unreachable!(),
@@ -72,11 +73,12 @@ impl<A: Allocator> Remaining<A> {
     }
 
     /// Goes on after the id of an option, whose node is added to the table.
-    fn take_id<C: Allocator>(
+    #[cfg_attr(not(feature = "cli"), inline)]
+    fn take_id(
         &mut self,
         limits: &Asked,
         id: u16,
-        table: &mut TypeTable<C>,
+        table: &mut TypeTable,
     ) -> Result<TypeOutline, Reason> {
         let Some(kind) = kind_or_lenient(limits.lenient, id) else {
             return Err(Reason::BadType);
@@ -89,7 +91,7 @@ impl<A: Allocator> Remaining<A> {
         }
         let node = table.len();
         let arity = kind.arity();
-        table.push(Node {
+        table.kit_push(Node {
             kind,
             arity,
             span: 0,
@@ -121,21 +123,23 @@ fn number_in(item: FieldOutline) -> u16 {
 }
 
 /// Goes on to the inner options of the option that begins at this node.
-fn enter_option<A: Allocator, C: Allocator>(
-    around: &mut OpenOptions<A>,
+#[cfg_attr(not(feature = "cli"), inline)]
+fn enter_option(
+    around: &mut OpenOptions,
     node: u32,
     named: bool,
     count: u16,
-    table: &mut TypeTable<C>,
+    table: &mut TypeTable,
 ) -> OptionStage {
-    around.push(node, named, count);
+    around.kit_push(node, named, count);
     close_whole_types(around, table)
 }
 
 /// Goes on to what comes next. Each type that is whole before it gets its span.
-fn close_whole_types<A: Allocator, C: Allocator>(
-    around: &mut OpenOptions<A>,
-    table: &mut TypeTable<C>,
+#[cfg_attr(not(feature = "cli"), inline)]
+fn close_whole_types(
+    around: &mut OpenOptions,
+    table: &mut TypeTable,
 ) -> OptionStage {
     loop {
         match around.next() {

@@ -1,14 +1,13 @@
 // Written by dist/erase from crates/cqlp_type_tables/src/making.rt.
 //! A table out of types.
 
-use crate::kit_std::prelude::{Clone, Vec};
+use crate::kit_std::prelude::{Vec};
 use crate::cqlp_type_tables::found::find;
 use crate::cqlp_type_tables::typed::HasType;
 use crate::cqlp_type_tables::writing::put_tree;
 use crate::cqlp_message::Spec;
 use crate::cqlp_note::{Header, Limits, NoMemory, Partial};
 use crate::cqlp_type::{TypeAdvance, TypeReader, TypeTable, TypeTree};
-use crate::kit_std::alloc::Allocator;
 
 error! {
 /// Why there is no table of types.
@@ -36,11 +35,11 @@ pub enum TableError {
 ///
 /// [`TableError::NotWritable`] where one of the types has no option, and else [`TableError::TooLong`] where their options have too
 /// many bytes together; [`TableError::NoMemory`] only where neither holds.
-pub fn table_of<A: Allocator + Clone>(
-    alloc: A,
+#[cfg_attr(not(feature = "cli"), inline)]
+pub fn table_of(
     types: &[TypeTree],
-) -> Result<TypeTable<A>, TableError> {
-    make(alloc, types)
+) -> Result<TypeTable, TableError> {
+    make(types)
 }
 
 /// The table of the types of these columns, as [`table_of`] makes it: of the `specs` of a page's `Metadata` or of what a
@@ -50,15 +49,15 @@ pub fn table_of<A: Allocator + Clone>(
 /// # Errors
 ///
 /// As [`table_of`] has them of the types alone: no name is in the way.
-pub fn table_of_specs<A: Allocator + Clone>(
-    alloc: A,
+#[cfg_attr(not(feature = "cli"), inline)]
+pub fn table_of_specs(
     specs: &[Spec],
-) -> Result<TypeTable<A>, TableError> {
-    make(alloc, specs)
+) -> Result<TypeTable, TableError> {
+    make(specs)
 }
 
 /// The table of the types of these.
-fn make<A: Allocator + Clone, T: HasType>(alloc: A, items: &[T]) -> Result<TypeTable<A>, TableError> {
+fn make<T: HasType>(items: &[T]) -> Result<TypeTable, TableError> {
     let found = find(items);
     if !found.is_writable() {
         return Err(TableError::NotWritable);
@@ -66,19 +65,18 @@ fn make<A: Allocator + Clone, T: HasType>(alloc: A, items: &[T]) -> Result<TypeT
     if found.size > Header::LONGEST_BODY as u64 {
         return Err(TableError::TooLong);
     }
-    match read_types(alloc, items, found.size as u32, found.nodes as u32) {
+    match read_types(items, found.size as u32, found.nodes as u32) {
         Ok(table) => Ok(table),
         Err(_) => Err(TableError::NoMemory),
     }
 }
 
 /// The same of types whose options have this many bytes, and which have this many nodes.
-fn read_types<A: Allocator + Clone, T: HasType>(
-    alloc: A,
+fn read_types<T: HasType>(
     items: &[T],
     size: u32,
     nodes: u32,
-) -> Result<TypeTable<A>, NoMemory> {
+) -> Result<TypeTable, NoMemory> {
     let limits = Limits {
         text: size.min(LONGEST_TEXT),
         cell: 0,
@@ -87,10 +85,10 @@ fn read_types<A: Allocator + Clone, T: HasType>(
         types: true,
         parts: false,
     };
-    let mut table = TypeTable::new(alloc.clone()?, nodes)?;
-    let mut partial = Partial::new(alloc.clone()?, limits.text)?;
-    let mut reader = TypeReader::new(alloc.clone()?, &limits)?;
-    let mut option = Vec::new(alloc);
+    let mut table = TypeTable::new(nodes)?;
+    let mut partial = Partial::new(limits.text)?;
+    let mut reader = TypeReader::new(&limits)?;
+    let mut option = Vec::new();
     for item in items {
         add_type(
             &mut reader,
@@ -107,11 +105,12 @@ fn read_types<A: Allocator + Clone, T: HasType>(
 const LONGEST_TEXT: u32 = 65_535;
 
 /// Adds a type: its option, as it is read.
-fn add_type<A: Allocator>(
-    reader: &mut TypeReader<A>,
-    partial: &mut Partial<A>,
-    table: &mut TypeTable<A>,
-    option: &mut Vec<u8, A>,
+#[cfg_attr(not(feature = "cli"), inline)]
+fn add_type(
+    reader: &mut TypeReader,
+    partial: &mut Partial,
+    table: &mut TypeTable,
+    option: &mut Vec<u8>,
     tree: &TypeTree,
 ) -> Result<(), NoMemory> {
     option.clear();

@@ -1,13 +1,13 @@
 // Written by dist/erase from crates/cqlp_type_tables/src/writing.rt.
 //! Type options, written into memory.
 
-use crate::kit_std::prelude::{String, Vec};
+use crate::kit_std::prelude::{KitVec, String, Vec};
 use crate::cqlp_note::NoMemory;
 use crate::cqlp_type::{Kind, TypeTree};
-use crate::kit_std::alloc::Allocator;
 
 /// Appends a type's option.
-pub(crate) fn put_tree<A: Allocator>(out: &mut Vec<u8, A>, tree: &TypeTree) -> Result<(), NoMemory> {
+#[cfg_attr(not(feature = "cli"), inline)]
+pub(crate) fn put_tree(out: &mut Vec<u8>, tree: &TypeTree) -> Result<(), NoMemory> {
     match tree {
         TypeTree::Plain(kind) => put_kind(out, *kind),
         TypeTree::Custom(class) => {
@@ -47,7 +47,8 @@ pub(crate) fn put_tree<A: Allocator>(out: &mut Vec<u8, A>, tree: &TypeTree) -> R
 }
 
 /// Appends the options of inner types without names.
-fn put_types<A: Allocator>(out: &mut Vec<u8, A>, types: &[TypeTree]) -> Result<(), NoMemory> {
+#[cfg_attr(not(feature = "cli"), inline)]
+fn put_types(out: &mut Vec<u8>, types: &[TypeTree]) -> Result<(), NoMemory> {
     for tree in types {
         put_tree(out, tree)?;
     }
@@ -55,8 +56,9 @@ fn put_types<A: Allocator>(out: &mut Vec<u8, A>, types: &[TypeTree]) -> Result<(
 }
 
 /// Appends the options of inner types, each after its name.
-fn put_fields<A: Allocator>(
-    out: &mut Vec<u8, A>,
+#[cfg_attr(not(feature = "cli"), inline)]
+fn put_fields(
+    out: &mut Vec<u8>,
     fields: &[(String, TypeTree)],
 ) -> Result<(), NoMemory> {
     for (name, tree) in fields {
@@ -67,7 +69,8 @@ fn put_fields<A: Allocator>(
 }
 
 /// Appends an option's id; 0 of the kind that has none.
-fn put_kind<A: Allocator>(out: &mut Vec<u8, A>, kind: Kind) -> Result<(), NoMemory> {
+#[cfg_attr(not(feature = "cli"), inline)]
+fn put_kind(out: &mut Vec<u8>, kind: Kind) -> Result<(), NoMemory> {
     let id = match kind {
         Kind::Raw => 0,
         _ => kind.id(),
@@ -76,15 +79,17 @@ fn put_kind<A: Allocator>(out: &mut Vec<u8, A>, kind: Kind) -> Result<(), NoMemo
 }
 
 /// Appends a \[string\].
-fn put_text<A: Allocator>(out: &mut Vec<u8, A>, text: &str) -> Result<(), NoMemory> {
+#[cfg_attr(not(feature = "cli"), inline)]
+fn put_text(out: &mut Vec<u8>, text: &str) -> Result<(), NoMemory> {
     put_count(out, text.len())?;
-    out.extend_from_slice(text.as_bytes())?;
+    out.kit_extend_from_slice(text.as_bytes())?;
     Ok(())
 }
 
 /// Appends a number of two bytes, the lowest two of this.
-fn put_count<A: Allocator>(out: &mut Vec<u8, A>, count: usize) -> Result<(), NoMemory> {
+#[cfg_attr(not(feature = "cli"), inline)]
+fn put_count(out: &mut Vec<u8>, count: usize) -> Result<(), NoMemory> {
     let bytes = count.to_be_bytes();
-    out.extend_from_slice(&bytes[6..])?;
+    out.kit_extend_from_slice(&bytes[6..])?;
     Ok(())
 }

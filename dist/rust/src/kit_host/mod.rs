@@ -9,9 +9,9 @@ pub mod text;
 
 pub mod prelude {
     pub(crate) use super::items::made_items as vec;
-    pub use super::rt::{AllocGlobal, Eprint, HostRuntime, Print};
+    pub use super::rt::{Eprint, HostRuntime, Print};
     pub(crate) use super::rt::{said as print, said_in_line as println, said_of_fault as eprintln};
     pub(crate) use super::text::made_text as format;
-    pub use super::text::{ToCopy, ToText};
-    pub use crate::kit_std::prelude::{Box, Clone, String, Vec};
+    pub use super::text::{KitText, ToText};
+    pub use crate::kit_std::prelude::{Box, KitBox, KitString, KitVec, String, Vec};
 }

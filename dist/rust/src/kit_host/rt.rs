@@ -1,7 +1,6 @@
 //! The runtime that `main` is given, and what it lets a function do.
 use crate::kit_host::fs::OpenFile;
-use crate::kit_std::alloc::Global;
-use crate::kit_std::string::String;
+use crate::kit_std::string::{KitString, String};
 use std::fs::File;
 use std::io::{self, BufRead, IsTerminal, Read, Write};
 use std::mem::ManuallyDrop;
@@ -9,10 +8,6 @@ use std::os::fd::FromRawFd;
 
 #[derive(Clone, Copy)]
 pub struct HostRuntime;
-
-pub trait AllocGlobal {
-    fn alloc(&self) -> Global;
-}
 
 pub trait Print {
     fn print(&self, text: impl std::fmt::Display) -> io::Result<()> {
@@ -36,12 +31,6 @@ pub trait Files {
     fn open_file(&self, how: &std::fs::OpenOptions, path: &str) -> io::Result<Self::File>;
 }
 
-impl AllocGlobal for HostRuntime {
-    fn alloc(&self) -> Global {
-        Global
-    }
-}
-
 impl Print for HostRuntime {}
 impl Eprint for HostRuntime {}
 
@@ -59,8 +48,8 @@ impl HostRuntime {
         Standard::of(2)
     }
 
-    pub fn lines(&self, alloc: Global) -> impl Iterator<Item = io::Result<String>> {
-        io::stdin().lock().lines().map(move |line| Ok(String::from_str(alloc, &line?)?))
+    pub fn lines(&self) -> impl Iterator<Item = io::Result<String>> {
+        io::stdin().lock().lines().map(move |line| Ok(<String as KitString>::from_str(&line?)?))
     }
 }
 

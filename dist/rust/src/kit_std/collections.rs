@@ -1,26 +1,19 @@
 //! `VecDeque` and `BTreeMap`, whose memory may be refused.
-use super::alloc::{AllocError, AllocFailed, Allocator, Global};
+use super::alloc::{AllocError, AllocFailed};
 use ::alloc::collections::VecDeque as Deque;
 use ::alloc::vec::Vec as Rows;
 use core::borrow::Borrow;
-use core::marker::PhantomData;
 use core::mem::replace;
 use core::ops::{Deref, DerefMut};
 
 /// Rust's `VecDeque`, but that what needs memory may be refused.
-pub struct VecDeque<T, A: Allocator = Global> {
+pub struct VecDeque<T> {
     items: Deque<T>,
-    alloc: A,
 }
 
-impl<T, A: Allocator> VecDeque<T, A> {
-    pub fn new(alloc: A) -> Self {
-        VecDeque { items: Deque::new(), alloc }
-    }
-
-    /// Where its memory comes from.
-    pub fn allocator(&self) -> &A {
-        &self.alloc
+impl<T> VecDeque<T> {
+    pub fn new() -> Self {
+        VecDeque { items: Deque::new() }
     }
 
     pub fn reserve(&mut self, more: usize) -> Result<(), AllocError> {
@@ -36,7 +29,7 @@ impl<T, A: Allocator> VecDeque<T, A> {
         }
     }
 
-    pub fn reserve_exact(&mut self, more: usize) -> Result<(), AllocError> {
+    pub fn kit_reserve_exact(&mut self, more: usize) -> Result<(), AllocError> {
         self.items.try_reserve_exact(more).map_err(|_| AllocError)
     }
 
@@ -66,7 +59,7 @@ impl<T, A: Allocator> VecDeque<T, A> {
     }
 }
 
-impl<T, A: Allocator> Deref for VecDeque<T, A> {
+impl<T> Deref for VecDeque<T> {
     type Target = Deque<T>;
 
     fn deref(&self) -> &Deque<T> {
@@ -74,7 +67,7 @@ impl<T, A: Allocator> Deref for VecDeque<T, A> {
     }
 }
 
-impl<T, A: Allocator> DerefMut for VecDeque<T, A> {
+impl<T> DerefMut for VecDeque<T> {
     fn deref_mut(&mut self) -> &mut Deque<T> {
         &mut self.items
     }
@@ -82,18 +75,17 @@ impl<T, A: Allocator> DerefMut for VecDeque<T, A> {
 
 /// Rust's `BTreeMap`, but that what needs memory may be refused: its keys, and its values beside them, lie in rows of at most 64, and a full
 /// row becomes two.
-pub struct BTreeMap<K, V, A: Allocator = Global> {
+pub struct BTreeMap<K, V> {
     rows: Rows<(Rows<K>, Rows<V>)>,
     len: usize,
-    alloc: PhantomData<A>,
 }
 
 /// How many entries a row has at most.
 const MOST: usize = 64;
 
-impl<K: Ord, V, A: Allocator> BTreeMap<K, V, A> {
-    pub fn new(_: A) -> Self {
-        BTreeMap { rows: Rows::new(), len: 0, alloc: PhantomData }
+impl<K: Ord, V> BTreeMap<K, V> {
+    pub fn new() -> Self {
+        BTreeMap { rows: Rows::new(), len: 0 }
     }
 
     #[must_use]

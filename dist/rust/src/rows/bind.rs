@@ -9,7 +9,6 @@ use crate::cqlp_encode::BindError;
 use crate::cqlp_kind::Kind;
 use crate::cqlp_message::{OwnedBound, Spec};
 use crate::cqlp_text::kind_name;
-use crate::kit_std;
 use crate::rows::error::type_of;
 use crate::rows::to_cell::ToCell;
 
@@ -89,7 +88,7 @@ impl Error for BindFault {
 }
 
 /// Values as [`QueryParams::values`](crate::frame::QueryParams::values) has them, without names.
-pub type BoundValues = kit_std::vec::Vec<(Option<kit_std::string::String>, OwnedBound)>;
+pub type BoundValues = Vec<(Option<String>, OwnedBound)>;
 
 /// Binds values to a statement, whose [`specs`](crate::frame::Prepared::specs) say the types of its values. Sections 4.1.4 and 4.2.5.4 of
 /// `native_protocol_v4.spec`. [`bind!`](crate::bind) calls it.
@@ -105,7 +104,7 @@ pub fn bind_values(specs: &[Spec], values: &[&dyn ToCell]) -> Result<BoundValues
         Ok(bound) => Ok((None, bound)),
         Err(why) => Err(BindFault::Value { place, name: spec.name.as_str().into(), why }),
     };
-    Ok(specs.iter().zip(values).enumerate().map(bind).collect::<Result<Vec<_>, _>>()?.into())
+    Ok(specs.iter().zip(values).enumerate().map(bind).collect::<Result<Vec<_>, _>>()?)
 }
 
 /// The values of a statement, bound by their places: `bind!(specs; 7, "spade", None::<i32>)` is what

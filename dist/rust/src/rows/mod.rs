@@ -13,7 +13,7 @@
 //!
 //! ```
 //! use cqlp::rows::{RowError, RowSink, page_rows};
-//! use cqlp::{Decoder, Global, Limits};
+//! use cqlp::{Decoder, Limits};
 //!
 //! cqlp::row! {
 //!     #[derive(Debug, PartialEq)]
@@ -30,7 +30,7 @@
 //!     names.push(name);
 //!     Ok(())
 //! });
-//! let mut decoder = Decoder::new(Global, Limits::DEFAULT)?;
+//! let mut decoder = Decoder::new(Limits::DEFAULT)?;
 //! for piece in frame.chunks(10) {
 //!     rows.feed(&mut decoder, piece)?;
 //! }
@@ -54,7 +54,7 @@
 //! use cqlp::frame::{QueryParams, Spec, TypeTree};
 //! use cqlp::{Kind, bind};
 //!
-//! let spec = |name: &str, kind| Spec { table: None, name: name.to_string().into(), tree: TypeTree::Plain(kind) };
+//! let spec = |name: &str, kind| Spec { table: None, name: name.to_string(), tree: TypeTree::Plain(kind) };
 //! let specs = [spec("id", Kind::Int), spec("name", Kind::Varchar)];
 //!
 //! let values = Some(bind!(&specs; 7, "Ada")?);

@@ -11,7 +11,6 @@ use crate::cqlp_message::Spec;
 use crate::cqlp_note::{Address, Header, Limits, Refusal};
 use crate::cqlp_skip::Fed;
 use crate::cqlp_type_tables::{TableError, table_of_specs};
-use crate::kit_std::alloc::Global;
 use crate::rows::cell::{LentCell, Place, lend};
 use crate::rows::cells::{CellReading, Columns, NotRead, RowCells, WhyNot};
 use crate::rows::error::RowError;
@@ -58,7 +57,7 @@ impl PageReader {
     ///
     /// As [`Decoder::new`].
     pub fn new(limits: Limits) -> Result<PageReader, NewError> {
-        Ok(PageReader { decoder: Decoder::new(Global, limits)?, asked: limits, limits: CELL_LIMITS, given: None })
+        Ok(PageReader { decoder: Decoder::new(limits)?, asked: limits, limits: CELL_LIMITS, given: None })
     }
 
     /// This reader, with limits on a cell with items: how many values are in it, and how many bytes.
@@ -74,7 +73,7 @@ impl PageReader {
     ///
     /// [`TableError`], also where the types pass the limits of the decoder.
     pub fn give(&mut self, specs: &[Spec]) -> Result<(), TableError> {
-        let table = table_of_specs(Global, specs)?;
+        let table = table_of_specs(specs)?;
         let names = Names::of_specs(specs).map_err(|_| TableError::NoMemory)?;
         let columns = Columns::of_table(&table).map_err(|_| TableError::NoMemory)?;
         self.decoder.restart();

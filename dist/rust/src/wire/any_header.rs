@@ -2,7 +2,7 @@
 
 use crate::cqlp_message::Frame;
 use crate::cqlp_note::{Header, Refusal};
-use crate::kit_std::alloc::{AllocError, Global};
+use crate::kit_std::alloc::AllocError;
 
 /// The last version whose frames follow each other without anything around them. In version 5 segments with checksums do, once a
 /// connection is set up.
@@ -96,7 +96,7 @@ impl AnyHeader {
         if self.size() < Self::LONGEST {
             bytes[2] = bytes[3];
         }
-        Frame::version_error(Global, &bytes)
+        Frame::version_error(&bytes)
     }
 
     /// Its bytes, as a header of nine.

@@ -10,7 +10,6 @@ use crate::cqlp_grammar::SinkFault;
 use crate::cqlp_message::{Frame, Message};
 use crate::cqlp_note::Header;
 use crate::cqlp_session::{ClientOf, ReplyOf, RequestKind, Ticket};
-use crate::kit_std::alloc::Global;
 use crate::rows::{FromRow, RowError, RowSink};
 use crate::wire::fault::WireError;
 use crate::wire::frames::Outbox;
@@ -19,7 +18,7 @@ use crate::wire::inbox::{Arrival, Inbox};
 /// A response that came.
 #[derive(Clone, Copy, Debug, PartialEq, Eq)]
 #[non_exhaustive]
-pub enum Heard<C> {
+pub enum Response<C> {
     /// The reply to a request, with what the request carries.
     Reply {
         /// The header of the reply.
@@ -42,7 +41,7 @@ pub enum Heard<C> {
 ///
 /// ```
 /// use cqlp::frame::{Message, QueryParams};
-/// use cqlp::wire::{ClientSide, Heard};
+/// use cqlp::wire::{ClientSide, Response};
 /// use cqlp::{Consistency, Header, Opcode};
 ///
 /// let mut client = ClientSide::new(128)?;
@@ -54,7 +53,7 @@ pub enum Heard<C> {
 /// // let count = stream.read(client.inbox().room()?).await?; client.inbox().filled(count);
 /// client.inbox().push(&[0x84, 0, 0, 0, 2, 0, 0, 0, 0])?;
 /// while let Some(heard) = client.hear()? {
-///     let Heard::Reply { header, carried, .. } = heard else { continue };
+///     let Response::Reply { header, carried, .. } = heard else { continue };
 ///     assert_eq!((header.opcode, carried, client.frame().len()), (Opcode::Ready, "startup", 9));
 /// }
 /// client.ask(Message::query("SELECT now() FROM system.local", QueryParams::new(Consistency::One)), "now")?;
@@ -91,7 +90,7 @@ impl<C> ClientSide<C> {
     ///
     /// As [`ClientSide::new`].
     pub fn with_longest(slots: u16, longest: u32) -> Result<ClientSide<C>, WireError> {
-        Ok(ClientSide { core: ClientOf::new(Global, slots)?, inbox: Inbox::new(longest), outbox: Outbox::default(), heard_in_part: None })
+        Ok(ClientSide { core: ClientOf::new(slots)?, inbox: Inbox::new(longest), outbox: Outbox::default(), heard_in_part: None })
     }
 
     /// What came and was not heard yet.
@@ -132,12 +131,12 @@ impl<C> ClientSide<C> {
     /// # Errors
     ///
     /// [`WireError::Foreign`], [`WireError::TooLong`] and [`WireError::Stray`]. The connection is of no more use then.
-    pub fn hear(&mut self) -> Result<Option<Heard<C>>, WireError> {
+    pub fn hear(&mut self) -> Result<Option<Response<C>>, WireError> {
         loop {
             let Some(header) = next_header(&mut self.inbox)? else { return Ok(None) };
             match self.core.reply(&header)? {
-                ReplyOf::Answer { kind, carried, .. } => return Ok(Some(Heard::Reply { header, kind, carried })),
-                ReplyOf::ServerEvent => return Ok(Some(Heard::Event { header })),
+                ReplyOf::Answer { kind, carried, .. } => return Ok(Some(Response::Reply { header, kind, carried })),
+                ReplyOf::ServerEvent => return Ok(Some(Response::Event { header })),
                 ReplyOf::Dropped { .. } => {}
             }
         }
@@ -195,7 +194,7 @@ impl<C> ClientSide<C> {
     /// # Errors
     ///
     /// Those of [`ClientSide::hear`] and of the stream, and `UnexpectedEof` where it ends within a frame.
-    pub fn wait(&mut self, stream: &mut (impl Read + Write)) -> io::Result<Option<Heard<C>>> {
+    pub fn wait(&mut self, stream: &mut (impl Read + Write)) -> io::Result<Option<Response<C>>> {
         self.wait_by(stream, Self::hear)
     }
 

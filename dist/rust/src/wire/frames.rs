@@ -11,7 +11,6 @@ use crate::cqlp_encode::{EncodeError, encode};
 use crate::cqlp_grammar::{Event, Sink, SinkFault};
 use crate::cqlp_message::Frame;
 use crate::cqlp_note::{Field, IoFault, Limits, Target};
-use crate::kit_std::alloc::Global;
 use crate::wire::fault::WireError;
 
 /// What a [`FrameReader`] takes of a frame, unless it is made with other limits: 100,000 fields, types 16 deep, and 16 MiB.
@@ -145,7 +144,7 @@ impl FrameReader {
     ///
     /// A limit out of its range, and memory that is refused.
     pub fn with_limits(limits: Limits, build: BuildLimits) -> Result<FrameReader, WireError> {
-        Ok(FrameReader { decoder: Decoder::new(Global, limits)?, builder: FrameBuilder::new(Global, build) })
+        Ok(FrameReader { decoder: Decoder::new(limits)?, builder: FrameBuilder::new(build) })
     }
 
     /// The value of a frame, its header first. Bytes after the frame are not looked at.
@@ -210,7 +209,7 @@ impl TextAlterer {
     /// Memory that is refused.
     pub fn new(longest: u32) -> Result<TextAlterer, WireError> {
         let limits = BuildLimits { fields: longest, bytes: longest, ..FRAME_LIMITS };
-        Ok(TextAlterer { decoder: Decoder::new(Global, Limits::DEFAULT)?, limits })
+        Ok(TextAlterer { decoder: Decoder::new(Limits::DEFAULT)?, limits })
     }
 
     /// The frame with other texts, where `alter` answers some; None where it answers none, so that the frame goes on as it came. It is
@@ -221,13 +220,13 @@ impl TextAlterer {
     /// [`WireError::Refused`], [`WireError::Cut`] and [`WireError::Build`].
     pub fn alter(&mut self, frame: &[u8], alter: impl FnMut(Field, &str) -> Option<String>) -> Result<Option<Vec<u8>>, WireError> {
         self.decoder.restart();
-        let mut sink = Altering { composer: Composer::new(Global, self.limits), alter, is_altered: false, is_whole: false, fault: None };
+        let mut sink = Altering { composer: Composer::new(self.limits), alter, is_altered: false, is_whole: false, fault: None };
         match self.decoder.feed(frame, &mut sink) {
             Fed::Refused { refusal, .. } => Err(refusal.into()),
             Fed::Fault { .. } => Err(sink.fault.unwrap_or(BuildError::NoFrame).into()),
             Fed::More if !sink.is_whole => Err(WireError::Cut),
             Fed::More if !sink.is_altered => Ok(None),
-            Fed::More => Ok(Some(sink.composer.write(Global)?.into_std())),
+            Fed::More => Ok(Some(sink.composer.write()?)),
         }
     }
 }

@@ -74,7 +74,7 @@ mod page_track;
 mod server;
 
 pub use any_header::AnyHeader;
-pub use client::{ClientSide, Heard};
+pub use client::{ClientSide, Response};
 pub use fault::WireError;
 pub use frames::{FRAME_LIMITS, FrameReader, Outbox, TextAlterer};
 pub use inbox::{Arrival, Inbox};

@@ -1,7 +1,7 @@
 //! The cores of a client and of a server beside a map of what is open, which says what each call has to answer.
 use super::Numbers;
 use cqlp::session::{AnswerError, BeginError, Client, Reply, RequestKind, Server, ServerRefusal, Stray, Ticket};
-use cqlp::{Global, Header, Opcode};
+use cqlp::{Header, Opcode};
 use std::collections::BTreeMap;
 
 const KINDS: [RequestKind; 8] = [
@@ -42,7 +42,7 @@ pub struct Caller {
 
 impl Caller {
     pub fn new(slots: u16) -> Caller {
-        Caller { core: Client::new(Global, slots).unwrap(), slots, begun: 0, open: BTreeMap::new() }
+        Caller { core: Client::new(slots).unwrap(), slots, begun: 0, open: BTreeMap::new() }
     }
 
     /// Begins requests, cancels some, and takes this header, or one that answers what is open.
@@ -108,7 +108,7 @@ pub struct Responder {
 
 impl Responder {
     pub fn new(slots: u16) -> Responder {
-        Responder { core: Server::new(Global, slots).unwrap(), slots, open: BTreeMap::new() }
+        Responder { core: Server::new(slots).unwrap(), slots, open: BTreeMap::new() }
     }
 
     /// Takes this header, and another, and answers some request.

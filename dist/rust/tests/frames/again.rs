@@ -4,7 +4,7 @@ use super::words::all_of;
 use super::written::{LIMITS, tell_events, write};
 use cqlp::cells::{CellBuilder, CellLimits, PageCellError, PageCells, PageProgress, ends_cell, event_size, page_head};
 use cqlp::frame::{BuildError, BuildLimits, Frame, FrameBuilder, Message, TypeTree};
-use cqlp::{Event, Global, Limits, Scalar, SinkFault};
+use cqlp::{Event, Limits, Scalar, SinkFault};
 
 /// How much of a frame may be held, and of a cell.
 const ROOM: BuildLimits = BuildLimits { fields: 1_000_000, depth: 64, bytes: 10_000_000 };
@@ -12,7 +12,7 @@ const CELL: CellLimits = CellLimits { events: 1_000, bytes: 100_000 };
 
 /// What becomes of a frame whose events are read of these bytes.
 pub fn frame_again(frame: &Frame, bytes: &[u8]) -> &'static str {
-    let (mut builder, mut again) = (FrameBuilder::new(Global, ROOM), "no frame");
+    let (mut builder, mut again) = (FrameBuilder::new(ROOM), "no frame");
     tell_events(LIMITS, bytes, |event| match builder.take(event) {
         Ok(None) => Ok(()),
         Ok(Some(built)) => {
@@ -32,7 +32,7 @@ pub fn frame_again(frame: &Frame, bytes: &[u8]) -> &'static str {
 pub fn cells_again(frame: &Frame, bytes: &[u8]) -> String {
     let Message::Rows(page) = &frame.message else { return String::new() };
     let columns = page.meta.specs.as_deref().unwrap_or(&[]);
-    let (mut builder, mut again) = (CellBuilder::new(Global, CELL), 0);
+    let (mut builder, mut again) = (CellBuilder::new(CELL), 0);
     tell_events(LIMITS, bytes, |event| {
         // An event that is none of a cell is refused by the builder, and passed over.
         if builder.take(event).is_err() || !ends_cell(event) {
@@ -58,7 +58,7 @@ pub fn said_of_cell(line: &str) -> String {
     let leaf = |scalar| Event::Leaf { row: 0, column: 0, level: 0, scalar };
     let part = Event::Part { row: 0, column: 0, level: 0, offset: 0, bytes: &[7], last: true };
     let end = Event::Leave { level: 0, items: 0 };
-    let mut builder = CellBuilder::new(Global, limits);
+    let mut builder = CellBuilder::new(limits);
     let answers = [end, part, leaf(Scalar::Varchar("abc")), leaf(Scalar::Int(7)), leaf(Scalar::Int(7))]
         .map(|event| format!("{:?}, ", builder.take(&event)))
         .concat();
@@ -83,7 +83,7 @@ pub fn said_of_page(line: &str) -> String {
         (Asked { held, part: words.option(), left_out: words.option() }, words.read())
     });
     let limits = asked.part.map_or(LIMITS, |part| Limits { cell: part, parts: true, ..LIMITS });
-    let (mut builder, mut answer) = (FrameBuilder::new(Global, asked.held), None);
+    let (mut builder, mut answer) = (FrameBuilder::new(asked.held), None);
     tell_events(limits, &write(&frame).1, |event| {
         if asked.left_out.is_some() && row_of(event) == asked.left_out {
             return Ok(());
@@ -125,10 +125,10 @@ pub fn said_of_pieces(line: &str) -> String {
 
 /// Writes a page again of the events of its bytes, and says whether it is the same.
 fn written_again(page: &Frame, size: u32, each: u32, bytes: &[u8]) -> &'static str {
-    let (Ok(head), Ok(place)) = (page_head(Global, page, size), PageProgress::start(page, size)) else {
+    let (Ok(head), Ok(place)) = (page_head(page, size), PageProgress::start(page, size)) else {
         return "no page";
     };
-    let mut again = Pieces { page, place, cells: PageCells::new(Global, page, place, CELL), each, held: 0, bytes: head.into_std() };
+    let mut again = Pieces { page, place, cells: PageCells::new(page, place, CELL), each, held: 0, bytes: head };
     let mut why = None;
     tell_events(LIMITS, bytes, |event| {
         why = if is_of_cell(event) { again.take(event).err() } else { None };
@@ -158,11 +158,11 @@ struct Pieces<'a> {
 impl Pieces<'_> {
     /// Ends a piece, and begins the next.
     fn give(&mut self) -> Result<(), PageCellError> {
-        let next = PageCells::new(Global, self.page, self.place, CELL);
+        let next = PageCells::new(self.page, self.place, CELL);
         let written = std::mem::replace(&mut self.cells, next).finish()?;
         self.held = 0;
         self.place = written.place;
-        self.cells = PageCells::new(Global, self.page, self.place, CELL);
+        self.cells = PageCells::new(self.page, self.place, CELL);
         self.bytes.extend_from_slice(&written.bytes);
         Ok(())
     }

@@ -4,7 +4,6 @@ use super::again::frame_again;
 use super::sockets::Narrow;
 use super::words::all_of;
 use super::written::{LIMITS, digits_line, write};
-use cqlp::Global;
 use cqlp::frame::{
     Frame, Message, Metadata, OwnedBound, PageError, PageWriter, QueryParams, Rows, TypeTree, Value, bind_value, raw_value, read_value,
 };
@@ -17,7 +16,7 @@ const BEFORE_VALUE: usize = 18;
 /// before, and where the writer of the page makes it.
 pub fn said(line: &str) -> String {
     let (of, value): (Option<TypeTree>, Value) = all_of(line, |words| (words.option(), words.read()));
-    let query = match bind_value(Global, &value, of.as_ref()) {
+    let query = match bind_value(&value, of.as_ref()) {
         Ok(bound) => query(bound),
         Err(error) => return format!("{line}: {error:?}\n"),
     };
@@ -26,7 +25,7 @@ pub fn said(line: &str) -> String {
     format!(
         "{line}: decoded {}, read {}, raw {}, by cell {}\n{}",
         frame_again(&query, &bytes) == "built again",
-        read_value(Global, &LIMITS, of.as_ref(), own).is_ok_and(|read| read == value),
+        read_value(&LIMITS, of.as_ref(), own).is_ok_and(|read| read == value),
         is_raw(&value, of.as_ref(), own),
         of.is_none_or(|tree| is_by_cell(&value, &tree, own)),
         digits_line(own),
@@ -35,7 +34,7 @@ pub fn said(line: &str) -> String {
 
 /// Whether these are the last bytes of a page with the cell that is made of the value.
 fn is_raw(value: &Value, of: Option<&TypeTree>, own: &[u8]) -> bool {
-    let raw = raw_value(Global, value, of).unwrap();
+    let raw = raw_value(value, of).unwrap();
     write(&page(vec![raw])).1.ends_with(own)
 }
 
@@ -57,17 +56,17 @@ fn query(bound: OwnedBound) -> Frame {
     let params = QueryParams {
         consistency: 1,
         flags: 0x01,
-        values: Some(vec![(None, bound)].into()),
+        values: Some(vec![(None, bound)]),
         page_size: None,
         paging: None,
         serial: None,
         timestamp: None,
     };
-    Frame::plain(0, Message::Query { text: String::new().into(), params })
+    Frame::plain(0, Message::Query { text: String::new(), params })
 }
 
 /// A page of one row and one column, which is not told.
 fn page(cells: Vec<Value>) -> Frame {
     let meta = Metadata { flags: 4, columns: 1, paging: None, table: None, specs: None };
-    Frame::plain(0, Message::Rows(Rows { meta, rows: 1, cells: cells.into() }))
+    Frame::plain(0, Message::Rows(Rows { meta, rows: 1, cells }))
 }

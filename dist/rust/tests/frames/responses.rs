@@ -71,8 +71,8 @@ impl FromWords for Address {
     fn from_words(words: &mut Words<'_>) -> Address {
         let bytes = words.bytes();
         match bytes.len() {
-            4 => Address::V4(bytes.into_std().try_into().unwrap()),
-            _ => Address::V6(bytes.into_std().try_into().unwrap()),
+            4 => Address::V4(bytes.try_into().unwrap()),
+            _ => Address::V6(bytes.try_into().unwrap()),
         }
     }
 }

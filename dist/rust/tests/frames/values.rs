@@ -1,9 +1,8 @@
 //! Types and values.
 
 use super::words::{FromWords, Words};
+use cqlp::Kind;
 use cqlp::frame::{Atom, TypeTree, Value};
-use cqlp::memory::Box;
-use cqlp::{Global, Kind};
 
 /// The kinds, by their names.
 const KINDS: [(&str, Kind); 26] = [
@@ -66,7 +65,7 @@ impl FromWords for TypeTree {
 
 impl FromWords for Box<TypeTree> {
     fn from_words(words: &mut Words<'_>) -> Box<TypeTree> {
-        Box::new(Global, words.read()).unwrap()
+        Box::new(words.read())
     }
 }
 

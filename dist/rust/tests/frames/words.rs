@@ -1,7 +1,5 @@
 //! The words of a line.
 
-use cqlp::memory::{String, Vec};
-
 /// The words that are left of a line. A word that does not say what was asked for ends the test.
 pub struct Words<'a> {
     rest: &'a str,
@@ -67,12 +65,12 @@ impl<'a> Words<'a> {
             self.rest = start;
             items.extend((0..count).map(|_| self.read::<T>()));
         }
-        items.into()
+        items
     }
 
     /// Bytes in hexadecimal digits, this many.
     pub fn array<const N: usize>(&mut self) -> [u8; N] {
-        self.bytes().into_std().try_into().unwrap()
+        self.bytes().try_into().unwrap()
     }
 
     /// A byte in hexadecimal digits.
@@ -82,14 +80,14 @@ impl<'a> Words<'a> {
 
     /// Bytes in hexadecimal digits, or `""` for none.
     pub fn bytes(&mut self) -> Vec<u8> {
-        bytes_of(self.word()).into()
+        bytes_of(self.word())
     }
 
     /// A word, or `""` for the text without letters, or `30*ab` for thirty times `ab`.
     pub fn text(&mut self) -> String {
         let word = self.word();
         let (times, once) = word.split_once('*').unwrap_or(("1", if word == "\"\"" { "" } else { word }));
-        once.repeat(times.parse().unwrap()).into()
+        once.repeat(times.parse().unwrap())
     }
 }
 

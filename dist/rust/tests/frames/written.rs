@@ -4,9 +4,8 @@ use super::again::{cells_again, frame_again};
 use super::sockets::{Narrow, Stops, is_told};
 use super::words::all_of;
 use cqlp::frame::{AppendError, EncodeError, Frame, append, encode, encode_from};
-use cqlp::memory;
 use cqlp::text::{Ending, ending_line, render_events};
-use cqlp::{Decoder, Event, Global, Limits, OfStd, Outcome, Sink, SinkFault, run};
+use cqlp::{Decoder, Event, Limits, OfStd, Outcome, Sink, SinkFault, run};
 
 pub const LIMITS: Limits = Limits { text: 65_536, cell: 65_536, entries: 65_536, depth: 64, types: true, parts: false };
 
@@ -37,7 +36,7 @@ pub fn write(frame: &Frame) -> (Result<u32, EncodeError>, Vec<u8>) {
 
 /// What is answered where a frame is appended to other bytes, and the bytes that came behind these.
 fn appended(frame: &Frame) -> (Result<u32, EncodeError>, Vec<u8>) {
-    let mut bytes = memory::Vec::from(vec![1, 2, 3]);
+    let mut bytes = vec![1, 2, 3];
     let answer = append(frame, &mut bytes).map_err(|error| match error {
         AppendError::Unfit(why) => EncodeError::Unfit(why),
         AppendError::NoMemory => panic!("no memory"),
@@ -99,7 +98,7 @@ pub fn digits_line(bytes: &[u8]) -> String {
 
 /// The lines of the events of these bytes, and of the verdict.
 fn events_lines(bytes: &[u8]) -> String {
-    let mut decoder = Decoder::new(Global, LIMITS).unwrap();
+    let mut decoder = Decoder::new(LIMITS).unwrap();
     let (outcome, text) = render_events(&mut decoder, &mut OfStd::new(bytes), OfStd::new(Vec::new()), u64::MAX);
     String::from_utf8(text.into_inner()).unwrap() + &verdict_line(outcome)
 }
@@ -122,7 +121,7 @@ impl<F: FnMut(&Event<'_>) -> Result<(), SinkFault>> Sink for Each<F> {
 
 /// Tells of the events of these bytes; how the reading ends.
 pub fn tell_events(limits: Limits, bytes: &[u8], take: impl FnMut(&Event<'_>) -> Result<(), SinkFault>) -> Outcome {
-    let mut decoder = Decoder::new(Global, limits).unwrap();
+    let mut decoder = Decoder::new(limits).unwrap();
     run(&mut decoder, &mut OfStd::new(bytes), &mut Each(take), u64::MAX)
 }
 

@@ -3,7 +3,7 @@
 use super::gifts;
 use super::memory::{amply, without_memory};
 use super::script::Script;
-use cqlp::{Event, Fed, Finish, Global, NotSkippable, Sink, SinkFault, SkippingDecoder};
+use cqlp::{Event, Fed, Finish, NotSkippable, Sink, SinkFault, SkippingDecoder};
 use std::fmt::Write;
 
 /// A line for each event.
@@ -31,7 +31,7 @@ pub fn said(script: &Script, stream: &[u8]) -> String {
 
 /// What is said of a stream in a first piece of one size and others of another, and how the stream ends.
 fn in_pieces(script: &Script, stream: &[u8], first: usize, size: usize) -> String {
-    let (mut decoder, mut said) = (SkippingDecoder::new(Global, script.limits).unwrap(), String::new());
+    let (mut decoder, mut said) = (SkippingDecoder::new(script.limits).unwrap(), String::new());
     if let Some(digits) = script.given {
         let table = gifts::table(digits);
         let _ = without_memory(|| decoder.give(table));

@@ -1,6 +1,5 @@
 //! The texts: usage, help, and what is said of mistakes.
 use super::{Arg, Command, Error, ErrorKind};
-use crate::kit_std::alloc::Global;
 use std::fmt;
 use std::format;
 use std::string::{String, ToString};
@@ -186,7 +185,7 @@ fn push_table(text: &mut String, heading: &str, rows: &[(String, String)]) {
 fn similar<'n>(word: &str, names: impl Iterator<Item = &'n str>) -> Vec<&'n str> {
     let mut found: Vec<(f64, &str)> = Vec::new();
     for name in names {
-        let likeness = crate::strsim::jaro(Global, word, name).unwrap_or(0.0);
+        let likeness = crate::strsim::jaro(word, name).unwrap_or(0.0);
         if likeness > 0.7 {
             let at = found.iter().filter(|(other, _)| *other <= likeness).count();
             found.insert(at, (likeness, name));
