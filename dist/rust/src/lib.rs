@@ -376,6 +376,7 @@ mod jiff_core;
 mod messages;
 mod names;
 mod params;
+mod raw_cells;
 pub mod rows;
 mod uuid;
 pub mod wire;
@@ -543,7 +544,8 @@ pub mod cells {
 /// Values of frames, what builds them of their events, and what writes them.
 ///
 /// A [`FrameBuilder`](frame::FrameBuilder) takes the events that a decoder says, and makes the value of each frame, which may be altered and
-/// written by [`encode`](frame::encode) again. A [`Composer`](frame::Composer) makes the bytes of one frame of its events, and needs no value:
+/// written by [`encode`](frame::encode) again. A [`Composer`](frame::Composer) makes the bytes of one frame of its events, and needs no value.
+/// Where the types of a page without metadata were given to the decoder, [`RawCells`](frame::RawCells) goes before either.
 ///
 #[cfg_attr(feature = "std", doc = "```")]
 #[cfg_attr(not(feature = "std"), doc = "```ignore")]
@@ -592,6 +594,7 @@ pub mod frame {
     pub use crate::cqlp_read_value::{CellContent, PageCell, ReadError, read_cell, read_value};
     pub use crate::cqlp_type::{TreeCheck, TypeTree, check_type, type_len};
     pub use crate::cqlp_value::{Atom, Content, Value, content_len, fits, fitting_size, value_len, value_size};
+    pub use crate::raw_cells::RawCells;
 }
 
 /// The codes of errors after whose message more fields come, by their names. Section 9 of `native_protocol_v4.spec`.

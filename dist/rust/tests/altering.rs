@@ -6,8 +6,12 @@ mod redact;
 #[path = "../examples/rename.rs"]
 mod rename;
 
-use cqlp::frame::{Atom, BatchEntry, Frame, Message, Metadata, QueryParams, Rows, Spec, TypeTree, Value, encode};
-use cqlp::{Kind, OfStd};
+use cqlp::cells::{CellError, CellLimits};
+use cqlp::frame::{
+    Atom, BatchEntry, BuildLimits, Composer, Frame, FrameBuilder, Message, Metadata, QueryParams, RawCells, Rows, Spec, TypeTree, Value,
+    encode, raw_value,
+};
+use cqlp::{Decoder, Event, Fed, Kind, Limits, OfStd, Sink, SinkFault, table_of_specs};
 use redact::Redactor;
 use rename::{Names, relay_requests};
 
@@ -78,4 +82,67 @@ fn a_keyspace_is_renamed() {
     let (mut sent, names) = (Vec::new(), Names { from: "shop.".to_string(), to: "store2.".to_string() });
     relay_requests(&came[..], &mut sent, &names).unwrap();
     assert_eq!(sent, wanted);
+}
+
+/// The value and the bytes of one frame, of its events.
+struct Made {
+    builder: FrameBuilder,
+    composer: Composer,
+    frame: Option<Frame>,
+}
+
+impl Sink for Made {
+    fn take(&mut self, _: u64, event: &Event<'_>) -> Result<(), SinkFault> {
+        self.composer.take(event).map_err(|_| SinkFault)?;
+        self.frame = self.builder.take(event).map_err(|_| SinkFault)?.map(|built| built.frame);
+        Ok(())
+    }
+}
+
+/// A page without metadata, two rows of three columns, and the columns.
+fn bare_page() -> (Frame, [Spec; 3]) {
+    let columns = [Spec::new("id", Kind::Int), Spec::new("tags", TypeTree::list(Kind::Varchar)), Spec::new("name", Kind::Varchar)];
+    let tags = Value::List(vec![Value::from("x"), Value::Null, Value::Empty]);
+    let cells = [Value::from(7), tags, Value::Null, Value::from(8), Value::Empty, Value::from("seen")];
+    let cells = cells.iter().zip(columns.iter().cycle()).map(|(cell, column)| raw_value(cell, Some(&column.tree)).unwrap()).collect();
+    let meta = Metadata { flags: 4, columns: 3, paging: None, table: None, specs: None };
+    (Frame::plain(1, Message::Rows(Rows { meta, rows: 2, cells })), columns)
+}
+
+/// A page without metadata is built and composed as it came, whether its types were given to the decoder or not, in pieces of any size.
+#[test]
+fn a_page_of_given_types_is_built() {
+    let (frame, columns) = bare_page();
+    let bytes = frame.to_bytes().unwrap();
+    let (build, cell) = (BuildLimits { fields: 100, depth: 4, bytes: 1_000 }, CellLimits { events: 5, bytes: 8 });
+    for (is_given, size) in [true, false].iter().flat_map(|is_given| (1..=bytes.len()).map(move |size| (is_given, size))) {
+        let mut decoder = Decoder::new(Limits::DEFAULT).unwrap();
+        if *is_given {
+            assert!(decoder.give(table_of_specs(&columns).unwrap()).unwrap().is_none());
+        }
+        let made = Made { builder: FrameBuilder::new(build), composer: Composer::new(build), frame: None };
+        let mut cells = RawCells::new(&columns, cell, made);
+        assert!(bytes.chunks(size).all(|piece| decoder.feed(piece, &mut cells) == Fed::More));
+        assert_eq!(cells.take_error(), None);
+        let made = cells.into_inner();
+        assert_eq!((made.frame.as_ref(), &made.composer.write().unwrap()[..]), (Some(&frame), &bytes[..]));
+    }
+}
+
+/// A cell beyond the limits, and one whose column is not described, are not handed on, and it says why.
+#[test]
+fn a_cell_is_not_handed_on() {
+    let (frame, columns) = bare_page();
+    let bytes = frame.to_bytes().unwrap();
+    let given = |columns: &[Spec], events| {
+        let mut decoder = Decoder::new(Limits::DEFAULT).unwrap();
+        assert!(decoder.give(table_of_specs(&bare_page().1).unwrap()).unwrap().is_none());
+        let build = BuildLimits { fields: 100, depth: 4, bytes: 1_000 };
+        let made = Made { builder: FrameBuilder::new(build), composer: Composer::new(build), frame: None };
+        let mut cells = RawCells::new(columns, CellLimits { events, bytes: 8 }, made);
+        assert!(matches!(decoder.feed(&bytes, &mut cells), Fed::Fault { .. }));
+        cells.take_error()
+    };
+    assert_eq!(given(&columns, 4), Some(CellError::TooManyEvents));
+    assert_eq!(given(&columns[..1], 5), Some(CellError::NoValue));
 }
