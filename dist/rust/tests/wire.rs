@@ -11,7 +11,8 @@ use cqlp::frame::{Frame, Message, Metadata, QueryParams, Spec, Value, encode};
 use cqlp::rows::{BindFault, RowError, RowSink, page_rows};
 use cqlp::session::{BeginError, RequestKind, Stray};
 use cqlp::wire::{
-    AnyHeader, Arrival, CellPlace, ClientSide, FrameReader, Inbox, KeepError, Outbox, PageTrack, Response, ServerSide, TextAlterer, WireError,
+    AnyHeader, Arrival, CellPlace, ClientSide, FrameReader, Inbox, KeepError, Outbox, PageTrack, Response, ServerSide, TextAlterer,
+    WireError,
 };
 use cqlp::{Consistency, Decoder, ErrorCode, Event, Header, Kind, Limits, OfStd, Reason, Step, Target, bind};
 use std::error::Error;
