@@ -6,6 +6,7 @@ Without the values, a line and an object have to be those without --values."""
 import datetime
 import ipaddress
 import json
+import random
 import struct
 import subprocess
 import sys
@@ -123,9 +124,273 @@ SCALARS = [
     (VARCHAR, b'', 'empty', ''),
 ]
 SEVEN = value(struct.pack('>i', 7))
+# A type option that there is not in version 4, and how deep types are nested at most.
+UNKNOWN, DEEPEST = b'\0\x15', 16
 # Type options behind which the next column's is known, and those behind which it is not.
-PASSED = [b'\0\0' + string(b'x.Y'), b'\0\x20' + INT, b'\0\x22' + VARCHAR, b'\0\x21' + VARCHAR + INT, b'\0\x20\0\0' + string(b'x.Y')]
-STOPPING = [b'\0\x15', b'\0\x31\0\1' + INT, b'\0\x20\0\x20' + INT, b'\0\x30' + string(b'ks') + string(b'u') + b'\0\1' + string(b'f') + INT, b'\x7F\xFF']
+PASSED = [b'\0\0' + string(b'x.Y'), b'\0\x20' + INT, b'\0\x22' + VARCHAR, b'\0\x21' + VARCHAR + INT, b'\0\x20\0\0' + string(b'x.Y'),
+          b'\0\x31\0\1' + INT, b'\0\x31\0\0', b'\0\x31\0\2\0\x20' + INT + VARCHAR, b'\0\x20\0\x20' + INT, b'\0\x20' * (DEEPEST - 1) + INT,
+          b'\0\x21\0\x21' + INT + INT + b'\0\x31\0\1' + INT,
+          b'\0\x30' + string(b'ks') + string(b'u') + b'\0\2' + string(b'f') + INT + string(b'g') + b'\0\x22' + INT]
+STOPPING = [UNKNOWN, b'\x7F\xFF', b'\0\x20' + UNKNOWN, b'\0\x31\0\2' + UNKNOWN + INT, b'\0\x21' + INT + UNKNOWN, b'\0\x20' * DEEPEST + INT,
+            b'\0\x30' + string(b'ks') + string(b'u') + b'\0\2' + string(b'f') + INT]
+
+
+# ---- Types with items: of each its option, and of a value of it the content, its text in a line and what JSON has.
+
+EMPTY = object()
+
+
+class Scalar:
+    """With its reader, which raises ValueError where a content is none of the type, and what makes a random one."""
+
+    def __init__(self, option, content, line, json_of, read, made):
+        self.option, self.content, self.line, self.json, self.read, self.made = option, content, line, json_of, read, made
+
+
+def number_of(size):
+    """A number of so many bytes: what writes one, and what reads it."""
+    def read(content):
+        if len(content) != size:
+            raise ValueError
+        return int.from_bytes(content, 'big', signed=True)
+    return lambda number: number.to_bytes(size, 'big', signed=True), read
+
+
+def flag_in(content):
+    return number_of(1)[1](content) != 0
+
+
+def line_of_text(text):
+    return '"' + ''.join('\\' + letter if letter in '"\\' else f'\\x{ord(letter):02x}' if letter < ' ' or letter == '\x7F' else letter for letter in text) + '"'
+
+
+def bytes_made(numbers):
+    return bytes(numbers.randrange(256) for _ in range(numbers.randrange(1, 4)))
+
+
+OF_INT = Scalar(INT, number_of(4)[0], str, int, number_of(4)[1], lambda numbers: numbers.randrange(-9, 9))
+OF_TEXT = Scalar(VARCHAR, str.encode, line_of_text, str, bytes.decode, lambda numbers: ''.join(numbers.choices('aé"\\\n', k=numbers.randrange(1, 4))))
+OF_BIGINT = Scalar(BIGINT, number_of(8)[0], str, str, number_of(8)[1], lambda numbers: numbers.randrange(-1 << 63, 1 << 63))
+OF_BLOB = Scalar(BLOB, bytes, lambda content: '0x' + content.hex(), bytes.hex, bytes, bytes_made)
+OF_BOOLEAN = Scalar(b'\0\x04', lambda flag: bytes([flag]), lambda flag: str(flag).lower(), bool, flag_in, lambda numbers: numbers.random() < 0.5)
+OF_UUID = Scalar(b'\0\x0C', lambda one: one.bytes, str, str, lambda content: uuid.UUID(bytes=content), lambda numbers: uuid.UUID(int=numbers.getrandbits(128)))
+OF_INET = Scalar(b'\0\x10', lambda one: one.packed, lambda one: one.exploded, lambda one: one.exploded, ipaddress.ip_address,
+                 lambda numbers: ipaddress.ip_address(numbers.randbytes(numbers.choice((4, 16)))))
+OF_CUSTOM = Scalar(b'\0\0' + string(b'x.Y'), bytes, OF_BLOB.line, OF_BLOB.json, bytes, bytes_made)
+SCALAR_TYPES = [OF_INT, OF_TEXT, OF_BIGINT, OF_BLOB, OF_BOOLEAN, OF_UUID, OF_INET, OF_CUSTOM]
+
+
+class Items:
+    """A list, a set, a map, a tuple or a user-defined type, each of which has values of other types."""
+    id, opening, closing = None, '(', ')'
+
+    def __init__(self, *types):
+        self.types = types
+        self.option = struct.pack('>H', self.id) + self.inner()
+
+    def inner(self):
+        return b''.join(of.option for of in self.types)
+
+    def flat(self, items):
+        """Each item with its type."""
+        return [(self.types[0], item) for item in items]
+
+    def count(self, items):
+        return struct.pack('>i', len(items))
+
+    def content(self, items):
+        return self.count(items) + b''.join(value_of(of, item) for of, item in self.flat(items))
+
+    def line(self, items):
+        return self.opening + ', '.join(line_of(of, item) for of, item in self.flat(items)) + self.closing
+
+    def json(self, items):
+        return [json_of(of, item) for of, item in self.flat(items)]
+
+    def read(self, content):
+        """The items that are the whole content."""
+        count, rest = count_in(content)
+        return read_all([self.types[0]] * min(count, len(content)), rest)
+
+    def made(self, numbers):
+        return [item_made(self.types[0], numbers) for _ in range(numbers.randrange(4))]
+
+
+class List(Items):
+    id, opening, closing = 0x20, '[', ']'
+
+
+class Set(Items):
+    id, opening, closing = 0x22, '{', '}'
+
+
+class Map(Items):
+    """Its items are pairs."""
+    id, opening, closing = 0x21, '{', '}'
+
+    def flat(self, items):
+        return [pair for key, one in items for pair in ((self.types[0], key), (self.types[1], one))]
+
+    def line(self, items):
+        return '{' + ', '.join(f'{line_of(self.types[0], key)}: {line_of(self.types[1], one)}' for key, one in items) + '}'
+
+    def json(self, items):
+        return [[json_of(self.types[0], key), json_of(self.types[1], one)] for key, one in items]
+
+    def read(self, content):
+        count, rest = count_in(content)
+        items = read_all(list(self.types) * min(count, len(content)), rest)
+        return list(zip(items[::2], items[1::2]))
+
+    def made(self, numbers):
+        return [tuple(item_made(of, numbers) for of in self.types) for _ in range(numbers.randrange(3))]
+
+
+class Tuple(Items):
+    """Of which the last ones may not be there."""
+    id = 0x31
+
+    def inner(self):
+        return struct.pack('>H', len(self.types)) + super().inner()
+
+    def flat(self, items):
+        return list(zip(self.types, items))
+
+    def count(self, items):
+        return b''
+
+    def read(self, content):
+        return read_all(self.types, content, may_end=True)
+
+    def made(self, numbers):
+        return [item_made(of, numbers) for of in self.types[:numbers.randrange(len(self.types)) + 1]]
+
+
+class Udt(Tuple):
+    id = 0x30
+
+    def inner(self):
+        fields = b''.join(string(b'f%d' % number) + of.option for number, of in enumerate(self.types))
+        return string(b'ks') + string(b'udt') + struct.pack('>H', len(self.types)) + fields
+
+
+def value_of(of, one):
+    return NULL if one is None else value(b'' if one is EMPTY else of.content(one))
+
+
+def line_of(of, one):
+    return 'null' if one is None else 'empty' if one is EMPTY else of.line(one)
+
+
+def json_of(of, one):
+    return None if one is None else '' if one is EMPTY else of.json(one)
+
+
+def count_in(content):
+    count = int.from_bytes(content[:4], 'big', signed=True)
+    if len(content) < 4 or count < 0:
+        raise ValueError
+    return count, content[4:]
+
+
+def read_all(types, content, may_end=False):
+    """Values of these types up to the end of the content, where those of a tuple may end before."""
+    items = []
+    for of in types:
+        if may_end and not content:
+            break
+        if len(content) < 4:
+            raise ValueError
+        length, content = int.from_bytes(content[:4], 'big', signed=True), content[4:]
+        if length > len(content):
+            raise ValueError
+        items.append(None if length < 0 else EMPTY if length == 0 else of.read(content[:length]))
+        content = content[max(length, 0):]
+    if content:
+        raise ValueError
+    return items
+
+
+def item_made(of, numbers):
+    return numbers.choices((None, EMPTY, of.made(numbers)), (1, 1, 12))[0]
+
+
+def type_made(numbers, depth):
+    """A random type."""
+    if depth == 0 or numbers.random() < 0.2:
+        return numbers.choice(SCALAR_TYPES)
+    kind = numbers.choice((List, Set, Map, Tuple, Udt))
+    return kind(*(type_made(numbers, depth - 1) for _ in range({List: 1, Set: 1, Map: 2}.get(kind, numbers.randrange(1, 4)))))
+
+
+def changed(content, numbers):
+    """A content of which bytes may be other ones, more or fewer."""
+    content = bytearray(content)
+    for _ in range(numbers.choice((0, 1, 1, 2))):
+        at = numbers.randrange(len(content) + 1)
+        content[at:at + numbers.choice((0, 1, 1, 1, 4))] = bytes(numbers.choice((0, 0, 1, 2, 4, 255)) for _ in range(numbers.choice((0, 1, 1, 1, 4))))
+    return bytes(content)
+
+
+def random_cases(count):
+    """Values of random types, of which bytes are changed: those that a reader here takes are written by their types, and others raw."""
+    numbers, taken = random.Random(1), 0
+    while count > 0:
+        of = type_made(numbers, 3)
+        content = changed(of.content(of.made(numbers)), numbers)
+        if isinstance(of, Scalar) or not content or len(content) > FRONT - 13 or len(of.option) > 200:
+            continue
+        try:
+            one = of.read(content)
+            line, objects, taken = of.line(one), of.json(one), taken + 1
+        except ValueError:
+            line, objects = raw(content)
+        count -= 1
+        yield Case(f'{of.option.hex()} {content.hex()}', [value(content)], line, [objects], columns=[of.option])
+    if not 100 < taken < 900:
+        print(f'random values: {taken} of 1000 are taken')
+
+
+def lists(depth):
+    """A list of lists of so many levels, and a value of it with one item in each."""
+    of, one = OF_INT, 7
+    for _ in range(depth - 1):
+        of, one = List(of), [one]
+    return of, one
+
+
+NESTED = [
+    (List(OF_INT), [1, -2]), (List(OF_INT), []), (List(OF_INT), [None]), (List(OF_INT), [EMPTY, 5, None]), (List(OF_INT), EMPTY), (List(OF_INT), None),
+    (Set(OF_TEXT), ['a', 'é']), (Set(OF_TEXT), []), (Set(OF_UUID), [ID]), (List(OF_INET), [ipaddress.ip_address('10.0.0.1'), V6]),
+    (List(OF_BIGINT), [1 << 40]), (List(OF_BLOB), [b'\0\xFF', b'\1']), (List(OF_CUSTOM), [b'\1', EMPTY]), (Set(OF_BOOLEAN), [False, True]),
+    (Map(OF_TEXT, OF_INT), [('a', 1), ('b', 2)]), (Map(OF_TEXT, OF_INT), []), (Map(OF_TEXT, OF_INT), [('a', None), (EMPTY, EMPTY), (None, 3)]),
+    (Tuple(OF_INT, OF_TEXT), [1, 'x']), (Tuple(OF_INT, OF_TEXT), [1]), (Tuple(OF_INT, OF_TEXT), [None, None]), (Tuple(OF_INT, OF_TEXT), [EMPTY]),
+    (Tuple(), EMPTY), (Tuple(OF_INT, OF_TEXT), EMPTY),
+    (Udt(OF_INT, OF_TEXT, OF_BOOLEAN), [1, 'x', True]), (Udt(OF_INT, OF_TEXT, OF_BOOLEAN), [1, 'x']), (Udt(OF_INT, OF_TEXT), [None, EMPTY]),
+    (List(List(OF_INT)), [[1, 2], [], None, EMPTY, [3]]), (List(Map(OF_INT, Set(OF_TEXT))), [[(1, ['a', 'b']), (2, [])], []]),
+    (Map(List(OF_INT), Map(OF_INT, OF_INT)), [([1, 2], [(3, 4), (5, 6)]), ([], [])]), (Map(Tuple(OF_INT, OF_INT), Udt(OF_TEXT)), [([1, 2], ['a'])]),
+    (Tuple(List(OF_INT), Map(OF_INT, OF_TEXT), OF_INT), [[1], [(2, 'b')], 3]), (Udt(Udt(OF_INT, OF_INT), Tuple(OF_TEXT), OF_INT), [[1, 2], ['a'], 3]),
+    (List(Udt(OF_INT, List(OF_TEXT))), [[1, ['a', 'b']], [2], [None, []]]), (Set(Tuple(OF_INT, OF_INT)), [[1, 2], [3]]),
+    lists(DEEPEST),
+]
+LENGTH_3 = value(b'\0\0\1')
+# Contents that their types do not have: counts that lie, or are negative; bytes behind the last item, or fewer than a length; lengths that lie; items that
+# are none of their types, the last ones too; and types that are not known, or nested too deep.
+LYING = [
+    (List(OF_INT).option, struct.pack('>i', 2) + SEVEN), (List(OF_INT).option, struct.pack('>i', 1) + SEVEN * 2), (List(OF_INT).option, struct.pack('>i', -1)),
+    (List(OF_INT).option, struct.pack('>i', (1 << 31) - 1) + SEVEN), (List(OF_INT).option, struct.pack('>i', -1) + NULL * 9), (List(OF_INT).option, b'\0\0\0'),
+    (List(OF_INT).option, struct.pack('>i', 0) + b'\0'), (List(OF_INT).option, struct.pack('>i', 1) + b'\0\0\0'),
+    (List(OF_INT).option, struct.pack('>ii', 1, 5) + b'\0' * 4), (List(OF_INT).option, struct.pack('>i', 2) + SEVEN + LENGTH_3),
+    (Set(OF_TEXT).option, struct.pack('>i', 1) + value(b'\xFF')), (Map(OF_INT, OF_INT).option, struct.pack('>i', 1) + SEVEN),
+    (Map(OF_INT, OF_INT).option, struct.pack('>i', 1) + SEVEN * 3), (Map(OF_INT, OF_INT).option, struct.pack('>i', 1 << 30) + SEVEN * 2),
+    (Map(OF_INT, OF_INT).option, struct.pack('>i', -(1 << 31))), (Map(OF_INT, OF_TEXT).option, struct.pack('>i', 1) + SEVEN + value(b'\xC3')),
+    (Tuple(OF_INT).option, SEVEN * 2), (Tuple(OF_INT, OF_INT).option, SEVEN + b'\0'), (Tuple(OF_INT).option, LENGTH_3), (Tuple().option, NULL),
+    (Udt(OF_INT).option, SEVEN + NULL), (Udt(OF_INT, OF_INT).option, struct.pack('>i', 9) + SEVEN),
+    (List(List(OF_INT)).option, struct.pack('>i', 1) + value(struct.pack('>i', 2) + SEVEN)),
+    (List(Tuple(OF_INT)).option, struct.pack('>i', 1) + value(SEVEN + NULL)),
+    (b'\0\x20' + UNKNOWN, struct.pack('>i', 1) + SEVEN), (b'\0\x31\0\2' + INT + UNKNOWN, SEVEN * 2),
+    (lists(DEEPEST + 1)[0].option, lists(DEEPEST + 1)[0].content(lists(DEEPEST + 1)[1])),
+]
 
 
 class Case:
@@ -163,9 +428,46 @@ def cases():
     yield Case('more than there are', [SEVEN], '7, ..', [7], False, columns=[INT] * 9, count=9)
     yield Case('none of those', [], '..', [], False, columns=[INT], count=1)
     yield Case('a compressed body', [], None, None, False, opcode=QUERY, body=b'\1\2\3', flags=0x01)
+    for of, one in NESTED:
+        name = f'{of.option.hex()} {value_of(of, one).hex()}'
+        yield Case(name, [value_of(of, one), SEVEN], line_of(of, one) + ', 7', [json_of(of, one), 7], columns=[of.option, INT])
+    for option, content in LYING:
+        yield Case(f'{option.hex()} {content.hex()}', [value(content)], raw(content)[0], [raw(content)[1]], columns=[option])
+    yield from nested_cases()
     yield from cut_cases()
     yield from batch_cases()
     yield Case('no values', [], None, None, None, columns=[INT], count=0)
+
+
+def nested_cases():
+    """Values with items in other places: with names, of a type that is not known, of a BATCH, and where a front ends in a value or in a type."""
+    of, one = Map(OF_TEXT, List(OF_INT)), [('a', [1, 2])]
+    content = of.content(one)
+    yield Case('an item that has a name', [value(content), UNSET], f'k: {of.line(one)}, l: unset', [{'k': of.json(one)}, {'l': {}}], columns=[of.option] * 2,
+               names=[b'k', b'l'])
+    for inner in (UNKNOWN, lists(DEEPEST)[0].option, lists(90)[0].option):
+        yield Case(f'a null of {inner.hex()}', [value(struct.pack('>i', 1) + NULL)], '[null]', [[None]], columns=[b'\0\x20' + inner])
+    yield Case('each negative length', [value(struct.pack('>iii', 2, -2, -7))], '[null, null]', [[None, None]], columns=[List(OF_INT).option])
+    yield Case('items of a query', [value(content)], raw(content)[0], [raw(content)[1]], opcode=QUERY)
+    yield Case('items that are not prepared', [value(content)], raw(content)[0], [raw(content)[1]])
+    of_id = lambda statement: b'\0\0\1\1' + string(statement) + struct.pack('>H', 1) + value(content) + b'\0\1\0'
+    yield Case('items of a batch', [], of.line(one), [of.json(one)], opcode=BATCH, body=of_id, columns=[of.option])
+    room = FRONT - 2 - 2 - 5 - 4
+    fits = List(OF_BLOB).content([b'\7' * (room - 8)])
+    yield Case('items that just fit', [value(fits)], '[0x' + '07' * (room - 8) + ']', [['07' * (room - 8)]], columns=[List(OF_BLOB).option])
+    many = List(OF_INT).content([7] * 40)
+    yield Case('items that are cut', [value(many)], '0x' + many[:room].hex() + '..', [many[:room].hex()], False, columns=[List(OF_INT).option])
+    # The front of the PREPARED ends behind the type of the list, in it, and before that of its items, behind 4 + 4 + 14 + 7 bytes and a name of 4.
+    left = FRONT - 4 - 4 - 14 - 7 - 4
+    short = List(OF_INT).content([7])
+    for bytes_left in range(-1, 5):
+        # A user-defined type of this many bytes; then the list, behind a name of 4 bytes.
+        size = left - 4 - bytes_left
+        filling = b'\0\x30' + string(b'ks') + string(b'u' * (size - 2 - 4 - 2 - 2)) + b'\0\0'
+        assert len(filling) == size
+        line, objects = ('[7]', [7]) if bytes_left >= 4 else raw(short)
+        columns = [filling, List(OF_INT).option]
+        yield Case(f'a type of which {bytes_left} bytes are there', [NULL, value(short)], f'null, {line}', [None, objects], columns=columns)
 
 
 def cut_cases():
@@ -226,9 +528,8 @@ def check(name, plain, with_values, plain_object, values_object, wanted):
         print(f'{name}: {values_object}, and not otherwise {plain_object}')
 
 
-def made(program, room):
+def made(program, room, all_cases):
     file = room / 'values.pcap'
-    all_cases = list(cases())
     executes, prepares = [], []
     for number, case in enumerate(all_cases):
         statement, stream = struct.pack('>H', number), number % 100
@@ -246,6 +547,22 @@ def made(program, room):
         print('other requests:', [len(some) for some in [*of_requests, *of_objects]], len(all_cases))
     for case, *texts in zip(all_cases, *of_requests, *of_objects):
         check(case.name, *texts, (case.line, case.objects, case.are_whole))
+
+
+def page(option, one):
+    """A page of one row with one cell."""
+    return frame(RESULT, 0, struct.pack('>iii', 2, 1, 1) + string(b'ks') + string(b't') + string(b'c') + option + struct.pack('>i', 1) + one)
+
+
+def as_rows(program, room):
+    """`rows` and `rows --json` have to write a cell as a request's value is to be written."""
+    for of, one in NESTED:
+        file = room / 'page.bin'
+        file.write_bytes(page(of.option, value_of(of, one)))
+        line, cells = (subprocess.run([program, 'rows', *options, file], capture_output=True, timeout=120).stdout.decode().splitlines()[-1]
+                       for options in ((), ('--json',)))
+        if (line, json.loads(cells)) != (line_of(of, one), [json_of(of, one)]):
+            print(f'{of.option.hex()}: rows {line!r} {cells}, and not {line_of(of, one)!r}')
 
 
 def frames(path):
@@ -318,5 +635,9 @@ def of_driver(program, driver):
 
 
 if __name__ == '__main__':
-    made(sys.argv[1], Path(sys.argv[2]))
+    # The types of a limited number of statements are kept.
+    at_random = list(random_cases(1_000))
+    for some in (list(cases()), *(at_random[begin:begin + 200] for begin in range(0, 1_000, 200))):
+        made(sys.argv[1], Path(sys.argv[2]), some)
+    as_rows(sys.argv[1], Path(sys.argv[2]))
     of_driver(sys.argv[1], Path(sys.argv[3]))

@@ -2,7 +2,7 @@
 use Rattle.std.proofs.Common.{◌≡◌, ℕ, suc, ◌-◌, ◌<◌, ◌&&◌, Bool, false, [], ◌++◌, ap, arith, if◌then◌else◌}
 use Rattle.cqlp_bound_values.specs.Bindings.{Values, are_whole, found, is_missing, is_whole, others}
 use Rattle.cqlp_bound_values.specs.Texts.{item_text, items_text}
-use Rattle.cqlp_bound_values.specs.declared.text.Form.{Form}
+use Rattle.cqlp_bound_values.specs.declared.form.Form.{Form}
 
 pub one_more : (n r : ℕ) → r ≡ n → 0 < r → n ≡ suc (n - 1)
 one_more n r same some = omega arith

@@ -1,12 +1,11 @@
 -- The values that a request binds, where they lie in the first bytes of its message, which its header's flags say to be plain.
 use Rattle.std.specs.Prelude.{ℕ, zero, suc, ◌-◌, ◌==◌, ◌&&◌, nat_lt, nat_le, Bool, true, false, List, [], ◌∷◌, length, take, drop, if◌then◌else◌}
 use Rattle.std.specs.Int.{w16, from_be_bytes}
-use Rattle.cqlp_kind.specs.declared.kind.Kind.{Kind}
 use Rattle.cqlp_note.specs.declared.header.Header.{Header}
 use Rattle.cqlp_note.specs.declared.opcode.Opcode.{Opcode}
 use Rattle.cqlp_note.specs.declared.opcode.Opcode.TheVariants as opcode
 use Rattle.cqlp_note.specs.Heading.{has}
-use Rattle.cqlp_bound_values.specs.Columns.{Types, first_kind, other_types, types_in, types_of}
+use Rattle.cqlp_bound_values.specs.Columns.{Types, other_types, types_in, types_of}
 use Rattle.cqlp_bound_values.specs.Fields.{behind_long_string, behind_string, int_at, string_at}
 use Rattle.cqlp_bound_values.specs.declared.binding as declared
 use Rattle.cqlp_bound_values.specs.declared.binding.Binding.TheVariants as binding
@@ -56,9 +55,6 @@ pub record Values : Type 0 where
 
 abbrev pub values_of : declared.BoundValues.BoundValues → Values
 values_of v = record { count = v.count; are_named = v.are_named; types = types_of v.types; bytes = v.bytes.now }
-
-abbrev pub kind_at : Values → Kind
-kind_at v = first_kind v.types
 
 abbrev pub name_at : Values → List ℕ
 name_at v = string_at v.bytes

@@ -1,5 +1,5 @@
 -- The types of the columns that a statement binds (section 4.2.5.4 of native_protocol_v4.spec), as far as the first bytes of the PREPARED response have them.
-use Rattle.std.specs.Prelude.{ℕ, ◌*◌, ◌%◌, ◌==◌, nat_lt, Bool, true, false, List, [], length, drop, Option, Some, None, if◌then◌else◌}
+use Rattle.std.specs.Prelude.{ℕ, zero, suc, ◌*◌, ◌%◌, ◌==◌, nat_lt, Bool, true, false, List, [], length, drop, Option, Some, None, if◌then◌else◌}
 use Rattle.cqlp_note.specs.Heading.{beside_number}
 use Rattle.cqlp_kind.specs.declared.kind.Kind.{Kind}
 use Rattle.cqlp_kind.specs.declared.kind.Kind.TheVariants as kind
@@ -57,32 +57,34 @@ or_raw None = kind.Raw
 abbrev pub kind_at : (option : List ℕ) → Kind
 kind_at b = if nat_lt (length b) 2 then kind.Raw else or_raw (beside_number (short_at b) kinds)
 
--- behind the id of an option without others in it; nothing of one that has some
-abbrev pub behind_kind : Kind → List ℕ → List ℕ
-behind_kind kind.Custom b = behind_string b
-behind_kind kind.List b = []
-behind_kind kind.Map b = []
-behind_kind kind.Set b = []
-behind_kind kind.Udt b = []
-behind_kind kind.Tuple b = []
-behind_kind kind.Raw b = []
-behind_kind k b = b
+-- the option of a field, which in a user-defined type is behind its name
+abbrev pub field_option : (are_named : Bool) → List ℕ → List ℕ
+field_option are_named b = if are_named then behind_string b else b
 
-abbrev pub behind_inner : (option : List ℕ) → List ℕ
-behind_inner b = behind_kind (kind_at b) (drop 2 b)
+-- behind so many fields, where each option ends as this says
+abbrev pub behind_fields : (behind : List ℕ → List ℕ) → (are_named : Bool) → (fields : ℕ) → List ℕ → List ℕ
+behind_fields behind are_named zero b = b
+behind_fields behind are_named (suc n) b = behind_fields behind are_named n (behind (field_option are_named b))
 
--- behind the id of an option, where those in it have no others: then no more types are known
-abbrev pub behind_any : Kind → List ℕ → List ℕ
-behind_any kind.List b = behind_inner b
-behind_any kind.Set b = behind_inner b
-behind_any kind.Map b = behind_inner (behind_inner b)
-behind_any k b = behind_kind k b
+-- behind a number of fields and the fields
+abbrev pub behind_count : (behind : List ℕ → List ℕ) → (are_named : Bool) → List ℕ → List ℕ
+behind_count behind are_named b = behind_fields behind are_named (short_at b) (drop 2 b)
 
-abbrev pub behind_option : (option : List ℕ) → List ℕ
-behind_option b = behind_any (kind_at b) (drop 2 b)
+-- behind the id of an option, where each one in it ends as this says; a user-defined type has its keyspace and its name first
+abbrev pub behind_kind : (behind : List ℕ → List ℕ) → Kind → List ℕ → List ℕ
+behind_kind behind kind.Custom b = behind_string b
+behind_kind behind kind.List b = behind b
+behind_kind behind kind.Set b = behind b
+behind_kind behind kind.Map b = behind (behind b)
+behind_kind behind kind.Udt b = behind_count behind true (behind_tables b)
+behind_kind behind kind.Tuple b = behind_count behind false b
+behind_kind behind kind.Raw b = []
+behind_kind behind k b = b
 
-abbrev pub first_kind : Types → Kind
-first_kind t = kind_at (option_at t)
+-- behind an option in which so many are nested at most, itself counted; else nothing, and then no more types are known
+unfoldable pub behind_option : (depth : ℕ) → List ℕ → List ℕ
+behind_option zero b = []
+behind_option (suc d) b = behind_kind (behind_option d) (kind_at b) (drop 2 b)
 
 abbrev pub other_types : Types → Types
-other_types t = types_with t.have_tables (behind_option (option_at t))
+other_types t = types_with t.have_tables (behind_option 16 (option_at t))

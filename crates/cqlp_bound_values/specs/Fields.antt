@@ -1,5 +1,5 @@
 -- Fields at the front of bytes (section 3 of native_protocol_v4.spec), and what comes behind them, which is nothing where a field is not there whole.
-use Rattle.std.specs.Prelude.{ℕ, nat_lt, List, length, take, drop, if◌then◌else◌}
+use Rattle.std.specs.Prelude.{ℕ, ◌==◌, nat_lt, Bool, List, length, take, drop, if◌then◌else◌}
 use Rattle.std.specs.Int.{w16, w32, from_be_bytes}
 use Rattle.std.specs.Str.Lossy.{utf8_valid_len}
 
@@ -19,6 +19,10 @@ behind_string b = drop (short_at b) (drop 2 b)
 
 abbrev pub behind_long_string : List ℕ → List ℕ
 behind_long_string b = drop (int_at b) (drop 4 b)
+
+-- no more bytes
+abbrev pub is_end : List ℕ → Bool
+is_end b = length b == 0
 
 -- the longest front that is UTF-8
 abbrev pub text_front : List ℕ → List ℕ

@@ -1,4 +1,5 @@
 pub mod Fields
 pub mod Columns
 pub mod Bindings
+pub mod Nested
 pub mod Texts

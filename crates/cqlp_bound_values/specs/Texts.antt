@@ -1,5 +1,5 @@
 -- Values that are bound, as a part of a line and as members of a JSON object.
-use Rattle.std.specs.Prelude.{ℕ, zero, suc, Bool, true, false, List, [], ◌∷◌, ◌++◌, Result, Ok, Err, codes, if◌then◌else◌}
+use Rattle.std.specs.Prelude.{ℕ, zero, suc, ◌&&◌, Bool, true, false, List, [], ◌∷◌, ◌++◌, drop, Result, Ok, Err, codes, if◌then◌else◌}
 use Rattle.cqlp_kind.specs.declared.kind.Kind.{Kind}
 use Rattle.cqlp_kind.specs.declared.kind.Kind.TheVariants as kind
 use Rattle.cqlp_kind.specs.Contents.{scalar_in}
@@ -7,13 +7,20 @@ use Rattle.cqlp_kind.specs.Scalars.{ScalarValue, Raw, Varchar}
 use Rattle.cqlp_kind.specs.Types.{has_no_items}
 use Rattle.cqlp_note.specs.declared.refusal.Reason.{Reason}
 use Rattle.cqlp_text.specs.CellText.{boolean_text, cell_text}
+use Rattle.cqlp_text.specs.PageText.{closing, opening, turn_after}
+use Rattle.cqlp_text.specs.PageText.{separator as turn_separator}
+use Rattle.cqlp_text.specs.declared.page_text.Turn.{Turn}
+use Rattle.cqlp_text.specs.declared.page_text.Turn.TheVariants.{First}
 use Rattle.cqlp_json.specs.Values.{scalar_text, string}
+use Rattle.cqlp_row_text.specs.JsonRows.{after_item, before_item}
 use Rattle.cqlp_capture_summary.specs.Shown.{shown_text}
 use Rattle.cqlp_bound_values.specs.Bindings.{Bound, Nothing, Unseen, Some_values, Found, Missing, Null, Unset, Content}
-use Rattle.cqlp_bound_values.specs.Bindings.{Values, are_whole, found, is_missing, kind_at, name_at, others}
-use Rattle.cqlp_bound_values.specs.Fields.{text_front}
-use Rattle.cqlp_bound_values.specs.declared.text.Form.{Form}
-use Rattle.cqlp_bound_values.specs.declared.text.Form.TheVariants as form
+use Rattle.cqlp_bound_values.specs.Bindings.{Values, are_whole, found, is_missing, name_at, others}
+use Rattle.cqlp_bound_values.specs.Columns.{behind_option, kind_at, option_at}
+use Rattle.cqlp_bound_values.specs.Fields.{is_end, text_front}
+use Rattle.cqlp_bound_values.specs.Nested.{Items, inner_at, is_nested, items_of, other_items}
+use Rattle.cqlp_bound_values.specs.declared.form.Form.{Form}
+use Rattle.cqlp_bound_values.specs.declared.form.Form.TheVariants as form
 
 -- texts one after the other
 abbrev pub joined : List (List ℕ) → List ℕ
@@ -40,7 +47,7 @@ abbrev pub shown_scalar : Kind → List ℕ → (is_whole : Bool) → ScalarValu
 shown_scalar k b true = whole_scalar k b
 shown_scalar k b false = front_scalar k b
 
--- ---- a value of a kind, as a cell of `rows` and of `rows --json`
+-- ---- a scalar or raw bytes, as a cell of `rows`
 
 abbrev pub more : (is_whole : Bool) → List ℕ
 more true = []
@@ -49,24 +56,92 @@ more false = codes ".."
 abbrev pub content_text : Kind → List ℕ → (is_whole : Bool) → List ℕ
 content_text k b is_whole = joined (cell_text (shown_scalar k b is_whole) ∷ more is_whole ∷ [])
 
-abbrev pub line_item : Kind → Found → List ℕ
-line_item k Missing = []
-line_item k Null = codes "null"
-line_item k Unset = codes "unset"
-line_item k (Content [] true) = codes "empty"
-line_item k (Content b is_whole) = content_text k b is_whole
+-- ---- a content with items, as a cell of `rows` and of `rows --json`
+
+abbrev pub scalar_as : Form → ScalarValue → List ℕ
+scalar_as form.Line v = cell_text v
+scalar_as form.Json v = scalar_text v
+
+abbrev pub empty_text : Form → List ℕ
+empty_text form.Line = codes "empty"
+empty_text form.Json = codes "\"\""
+
+abbrev pub opening_text : Form → Kind → List ℕ
+opening_text form.Line k = opening k
+opening_text form.Json k = codes "["
+
+abbrev pub closing_text : Form → Kind → List ℕ
+closing_text form.Line k = closing k
+closing_text form.Json k = codes "]"
+
+abbrev pub before_text : Form → Kind → Turn → List ℕ
+before_text form.Line k t = turn_separator t
+before_text form.Json k t = before_item k t
+
+-- after an item that had this turn
+abbrev pub after_text : Form → Kind → Turn → List ℕ
+after_text form.Line k t = []
+after_text form.Json k t = after_item k (turn_after k t)
+
+abbrev pub inner_text : (typed : (option content : List ℕ) → List ℕ) → Form → (option : List ℕ) → Found → List ℕ
+inner_text typed f o Missing = []
+inner_text typed f o Null = codes "null"
+inner_text typed f o Unset = codes "null"
+inner_text typed f o (Content [] is_whole) = empty_text f
+inner_text typed f o (Content b is_whole) = typed o b
+
+abbrev pub first_text : (typed : (option content : List ℕ) → List ℕ) → Form → Turn → Items → List ℕ
+first_text typed f t i = joined (before_text f i.kind t ∷ inner_text typed f i.option (inner_at i.bytes) ∷ after_text f i.kind t ∷ [])
+
+-- so many items at most, up to the last byte
+abbrev pub inner_items : (typed : (option content : List ℕ) → List ℕ) → (behind : List ℕ → List ℕ) → Form → (left : ℕ) → Turn → Items → List ℕ
+inner_items typed behind f zero t i = []
+inner_items typed behind f (suc n) t i =
+    if is_end i.bytes then []
+    else first_text typed f t i ++ inner_items typed behind f n (turn_after i.kind t) (other_items behind i)
+
+abbrev pub all_items : (typed : (option content : List ℕ) → List ℕ) → (behind : List ℕ → List ℕ) → Form → Items → List ℕ
+all_items typed behind f i = inner_items typed behind f i.left First i
+
+abbrev pub nested_text : (typed : (option content : List ℕ) → List ℕ) → (behind : List ℕ → List ℕ) → Form → Kind → Items → List ℕ
+nested_text typed behind f k i = joined (opening_text f k ∷ all_items typed behind f i ∷ closing_text f k ∷ [])
+
+-- by what comes behind the id of the type option
+abbrev pub kind_text : (typed : (option content : List ℕ) → List ℕ) → (behind : List ℕ → List ℕ) → Form → Kind → List ℕ → (content : List ℕ) → List ℕ
+kind_text typed behind f k t b =
+    if has_no_items k then scalar_as f (whole_scalar k b) else nested_text typed behind f k (items_of behind k t b)
+
+-- of a content that conforms to a type option in which so many are nested at most, itself counted
+unfoldable pub typed_text : (depth : ℕ) → Form → (option content : List ℕ) → List ℕ
+typed_text zero f o b = []
+typed_text (suc d) f o b = kind_text (typed_text d f) (behind_option d) f (kind_at o) (drop 2 o) b
+
+-- ---- a value of a type option
+
+abbrev pub line_content : (option : List ℕ) → List ℕ → (is_whole : Bool) → List ℕ
+line_content o b is_whole = if is_whole && is_nested o b then typed_text 16 form.Line o b else content_text (kind_at o) b is_whole
+
+abbrev pub json_content : (option : List ℕ) → List ℕ → (is_whole : Bool) → List ℕ
+json_content o b is_whole = if is_whole && is_nested o b then typed_text 16 form.Json o b else scalar_text (shown_scalar (kind_at o) b is_whole)
+
+abbrev pub line_item : (option : List ℕ) → Found → List ℕ
+line_item o Missing = []
+line_item o Null = codes "null"
+line_item o Unset = codes "unset"
+line_item o (Content [] true) = codes "empty"
+line_item o (Content b is_whole) = line_content o b is_whole
 
 -- one that is not set is an empty object
-abbrev pub json_item : Kind → Found → List ℕ
-json_item k Missing = []
-json_item k Null = codes "null"
-json_item k Unset = codes "{}"
-json_item k (Content [] true) = codes "\"\""
-json_item k (Content b is_whole) = scalar_text (shown_scalar k b is_whole)
+abbrev pub json_item : (option : List ℕ) → Found → List ℕ
+json_item o Missing = []
+json_item o Null = codes "null"
+json_item o Unset = codes "{}"
+json_item o (Content [] true) = codes "\"\""
+json_item o (Content b is_whole) = json_content o b is_whole
 
-abbrev pub value_text : Form → Kind → Found → List ℕ
-value_text form.Line k f = line_item k f
-value_text form.Json k f = json_item k f
+abbrev pub value_text : Form → (option : List ℕ) → Found → List ℕ
+value_text form.Line o f = line_item o f
+value_text form.Json o f = json_item o f
 
 -- ---- its name, and what comes around it
 
@@ -96,7 +171,7 @@ missing_text form.Json is_first = []
 
 abbrev pub present_text : Form → (is_first : Bool) → Values → Found → List ℕ
 present_text f is_first v found =
-    joined (separator f is_first ∷ name_text f v ∷ value_text f (kind_at v) found ∷ behind_named f v.are_named ∷ [])
+    joined (separator f is_first ∷ name_text f v ∷ value_text f (option_at v.types) found ∷ behind_named f v.are_named ∷ [])
 
 abbrev pub item_text : Form → (is_first : Bool) → Values → List ℕ
 item_text f is_first v = if is_missing (found v) then missing_text f is_first else present_text f is_first v (found v)

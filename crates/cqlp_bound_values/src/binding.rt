@@ -2,12 +2,12 @@
 
 ghost use Rattle.std.specs.Prelude.{◌≡◌, ◌<◌, true};
 ghost use Rattle.cqlp_bound_values.specs.Bindings.{are_whole, bound, bound_of, by_parameters, content_at, counted, entry_bound, first_bound};
-ghost use Rattle.cqlp_bound_values.specs.Bindings.{first_entry, found, found_of, kind_at, name_at, of_count, others, values_of};
+ghost use Rattle.cqlp_bound_values.specs.Bindings.{first_entry, found, found_of, name_at, of_count, others, values_of};
+ghost use Rattle.cqlp_bound_values.specs.Columns.{option_at};
 
 use crate::column_types::ColumnTypes;
 use crate::field::{behind_long_string, behind_string, has, string_at};
 use crate::item::{Item, behind_item};
-use cqlp_kind::Kind;
 use cqlp_note::{Header, Opcode};
 
 /// What a request binds to its statement.
@@ -144,11 +144,11 @@ impl<'a> BoundValues<'a> {
         self.are_named
     }
 
-    /// The kind of the first one.
-    pub(crate) fn kind(&self) -> Kind
-        ensures { result ≡ kind_at (values_of self.now) }
+    /// The type option of the first one, and what comes behind it.
+    pub(crate) fn option(&self) -> &'a [u8]
+        ensures { result.now ≡ option_at (values_of self.now).types }
     {
-        self.types.kind()
+        self.types.option()
     }
 
     /// The name of the first one.

@@ -1,11 +1,14 @@
 //! The types of the columns that a statement binds, where they lie in the metadata of its PREPARED response.
 
 ghost use Rattle.std.specs.Prelude.{◌≡◌};
-ghost use Rattle.cqlp_bound_values.specs.Columns.{behind_inner, behind_kind, behind_option, behind_tables, first_kind, has_tables, kind_at, metadata_types};
-ghost use Rattle.cqlp_bound_values.specs.Columns.{no_types, option_at, other_types, types_in, types_of, types_with};
+ghost use Rattle.cqlp_bound_values.specs.Columns.{behind_count, behind_kind, behind_option, behind_tables, field_option, has_tables, kind_at};
+ghost use Rattle.cqlp_bound_values.specs.Columns.{metadata_types, no_types, option_at, other_types, types_in, types_of, types_with};
 
-use crate::field::{behind, behind_string, int_at, short_at};
+use crate::field::{behind, behind_string, int_at, is_end, short_at};
 use cqlp_kind::Kind;
+
+/// How deep types are nested at most, the outermost counted; of a deeper one nothing is known.
+pub(crate) const DEEPEST: u32 = 16;
 
 /// The types of columns, one after the other, as far as they are there.
 #[derive(Clone, Copy)]
@@ -33,25 +36,18 @@ impl<'a> ColumnTypes<'a> {
         }
     }
 
-    /// The kind of the first column, or that of a cell whose type is not known.
-    pub(crate) fn kind(&self) -> Kind
-        ensures { result ≡ first_kind (types_of self.now) }
-    {
-        kind_at(self.option())
-    }
-
     /// Those of the other columns.
     pub(crate) fn others(self) -> ColumnTypes<'a>
         ensures { types_of result ≡ other_types (types_of self.entry) }
     {
         ColumnTypes {
             have_tables: self.have_tables,
-            bytes: behind_option(self.option()),
+            bytes: behind_option(DEEPEST, self.option()),
         }
     }
 
     /// The type option of the first column, and what comes behind it.
-    fn option(&self) -> &'a [u8]
+    pub(crate) fn option(&self) -> &'a [u8]
         ensures { result.now ≡ option_at (types_of self.now) }
     {
         if self.have_tables {
@@ -63,7 +59,7 @@ impl<'a> ColumnTypes<'a> {
 }
 
 /// What comes behind a keyspace and a table.
-fn behind_tables(bytes: &[u8]) -> &[u8]
+pub(crate) fn behind_tables(bytes: &[u8]) -> &[u8]
     ensures { result.now ≡ behind_tables bytes.now }
 {
     behind_string(behind_string(bytes))
@@ -97,7 +93,7 @@ fn has_tables(flags: u32) -> bool
 }
 
 /// The kind of a type option. Section 4.2.5.2 of `native_protocol_v4.spec`.
-fn kind_at(option: &[u8]) -> Kind
+pub(crate) fn kind_at(option: &[u8]) -> Kind
     ensures { result ≡ kind_at option.now }
 {
     if option.len() < 2 {
@@ -109,34 +105,57 @@ fn kind_at(option: &[u8]) -> Kind
     }
 }
 
-/// What comes behind a type option; nothing, where it holds one of several options. Then no more types are known.
-fn behind_option(option: &[u8]) -> &[u8]
-    ensures { result.now ≡ behind_option option.now }
+/// What comes behind a type option in which so many are nested at most, itself counted; else nothing, and then no more types are known.
+#[cycle(behind_option)]
+pub(crate) fn behind_option(depth: u32, option: &[u8]) -> &[u8]
+    ensures { result.now ≡ behind_option depth option.now }
 {
-    let rest = behind(2, option);
-    match kind_at(option) {
-        Kind::List | Kind::Set => behind_inner(rest),
-        Kind::Map => behind_inner(behind_inner(rest)),
-        kind => behind_kind(kind, rest),
+    if depth == 0 {
+        return behind(option.len(), option);
     }
+    behind_kind(depth - 1, kind_at(option), behind(2, option))
 }
 
-/// What comes behind a type option in another one; nothing, where it holds one itself.
-fn behind_inner(option: &[u8]) -> &[u8]
-    ensures { result.now ≡ behind_inner option.now }
-{
-    behind_kind(kind_at(option), behind(2, option))
-}
-
-/// What comes behind a type option without others in it, from behind its id on; nothing of one that has some.
-fn behind_kind(kind: Kind, bytes: &[u8]) -> &[u8]
-    ensures { result.now ≡ behind_kind kind bytes.now }
+/// What comes behind a type option, from behind its id on.
+#[cycle(behind_option)]
+fn behind_kind(depth: u32, kind: Kind, bytes: &[u8]) -> &[u8]
+    ensures { result.now ≡ behind_kind (behind_option depth) kind bytes.now }
 {
     match kind {
         Kind::Custom => behind_string(bytes),
-        Kind::List | Kind::Map | Kind::Set | Kind::Udt | Kind::Tuple | Kind::Raw => {
-            behind(bytes.len(), bytes)
-        }
+        Kind::List | Kind::Set => behind_option(depth, bytes),
+        Kind::Map => behind_option(depth, behind_option(depth, bytes)),
+        Kind::Udt => behind_fields(depth, true, behind_tables(bytes)),
+        Kind::Tuple => behind_fields(depth, false, bytes),
+        Kind::Raw => behind(bytes.len(), bytes),
         _ => bytes,
+    }
+}
+
+/// What comes behind a number of fields and the fields.
+#[cycle(behind_option)]
+fn behind_fields(depth: u32, are_named: bool, bytes: &[u8]) -> &[u8]
+    ensures { result.now ≡ behind_count (behind_option depth) are_named bytes.now }
+{
+    let mut left = short_at(bytes);
+    let mut rest = behind(2, bytes);
+    while left > 0 {
+        if is_end(rest) {
+            return rest;
+        }
+        rest = behind_option(depth, field_option(are_named, rest));
+        left -= 1;
+    }
+    rest
+}
+
+/// The type option of a field, which in a user-defined type is behind its name.
+pub(crate) fn field_option(are_named: bool, field: &[u8]) -> &[u8]
+    ensures { result.now ≡ field_option are_named field.now }
+{
+    if are_named {
+        behind_string(field)
+    } else {
+        field
     }
 }

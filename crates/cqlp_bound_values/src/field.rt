@@ -3,7 +3,7 @@
 ghost use Rattle.std.specs.Prelude.{◌≡◌, drop, take};
 ghost use Rattle.std.specs.Str.Lossy.{utf8_valid_len};
 ghost use Rattle.cqlp_note.specs.Heading.{has as has_bit};
-ghost use Rattle.cqlp_bound_values.specs.Fields.{behind_long_string, behind_string, int_at, short_at, string_at, text_front};
+ghost use Rattle.cqlp_bound_values.specs.Fields.{behind_long_string, behind_string, int_at, is_end, short_at, string_at, text_front};
 
 /// What comes behind so many bytes.
 pub(crate) fn behind(count: usize, bytes: &[u8]) -> &[u8]
@@ -52,6 +52,13 @@ pub(crate) fn behind_long_string(bytes: &[u8]) -> &[u8]
     ensures { result.now ≡ behind_long_string bytes.now }
 {
     behind(int_at(bytes) as usize, behind(4, bytes))
+}
+
+/// Whether there are no more bytes.
+pub(crate) fn is_end(bytes: &[u8]) -> bool
+    ensures { result ≡ is_end bytes.now }
+{
+    bytes.is_empty()
 }
 
 /// The longest front of bytes that is UTF-8.

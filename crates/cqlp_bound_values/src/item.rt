@@ -2,6 +2,7 @@
 
 ghost use Rattle.std.specs.Prelude.{◌≡◌};
 ghost use Rattle.cqlp_bound_values.specs.Bindings.{behind_item, content_of, found_of, is_missing, is_whole, item_at, item_of};
+ghost use Rattle.cqlp_bound_values.specs.Nested.{inner_at, inner_of};
 
 use crate::field::{behind, int_at};
 
@@ -40,6 +41,25 @@ impl<'a> Item<'a> {
         }
         if length >= 0x8000_0000 {
             return Item::Missing;
+        }
+        Item::content(length as usize, content)
+    }
+
+    /// An item of a value, which is null where its length is negative.
+    pub(crate) fn inner_at(bytes: &'a [u8]) -> Item<'a>
+        ensures { found_of result ≡ inner_at bytes.now }
+    {
+        if bytes.len() < 4 {
+            return Item::Missing;
+        }
+        Item::inner_of(int_at(bytes), behind(4, bytes))
+    }
+
+    fn inner_of(length: u32, content: &'a [u8]) -> Item<'a>
+        ensures { found_of result ≡ inner_of length content.now }
+    {
+        if length >= 0x8000_0000 {
+            return Item::Null;
         }
         Item::content(length as usize, content)
     }

@@ -4,26 +4,24 @@ ghost use Rattle.std.specs.Prelude.{◌≡◌, true};
 ghost use Rattle.cqlp_text.specs.CellText.{boolean_text};
 ghost use Rattle.cqlp_text.specs.Written.{Writes};
 ghost use Rattle.cqlp_bound_values.specs.Bindings.{bound_of, found_of, values_of};
-ghost use Rattle.cqlp_bound_values.specs.Texts.{array_text, behind_named, content_text, item_text, items_text, json_item, line_item, list_text, members_text};
-ghost use Rattle.cqlp_bound_values.specs.Texts.{missing_text, more, name_text, named_text, present_text, separator, value_text, values_text};
-ghost use Rattle.cqlp_bound_values.specs.declared.text.Form.TheVariants as form;
+ghost use Rattle.cqlp_bound_values.specs.Texts.{array_text, behind_named, content_text, item_text, items_text, json_content, json_item};
+ghost use Rattle.cqlp_bound_values.specs.Texts.{line_content, line_item, list_text, members_text, missing_text, more, name_text, named_text};
+ghost use Rattle.cqlp_bound_values.specs.Texts.{present_text, separator, value_text, values_text};
+ghost use Rattle.cqlp_bound_values.specs.declared.form.Form.TheVariants as form;
 
 use crate::binding::{Binding, BoundValues};
+use crate::column_types::{DEEPEST, kind_at};
 use crate::field::text_front;
+use crate::form::Form;
 use crate::item::Item;
+use crate::nested::is_nested;
+use crate::nested_text::put_typed;
 use crate::scalars::shown_scalar;
 use cqlp_capture_summary::put_shown_text;
 use cqlp_grammar::SinkFault;
 use cqlp_json::{put_scalar, put_string};
 use cqlp_kind::Kind;
 use cqlp_text::{Pen, TextWriter};
-
-/// How values are written.
-#[derive(Clone, Copy)]
-enum Form {
-    Line,
-    Json,
-}
 
 /// Takes what a line has of the values that a request binds: each as `cqlp rows` writes a cell; nothing where there are none, or none is seen.
 ///
@@ -150,7 +148,7 @@ fn put_present<P: Pen>(
 {
     writer.put_str(separator(form, is_first))?;
     put_name(writer, form, values)?;
-    put_value(writer, form, values.kind(), item)?;
+    put_value(writer, form, values.option(), item)?;
     writer.put_str(behind_named(form, values.are_named()))
 }
 
@@ -214,27 +212,27 @@ fn put_json_name<P: Pen>(writer: &mut TextWriter<P>, name: &str) -> Result<(), S
     writer.put(b":")
 }
 
-/// Takes a value of this kind that is there.
+/// Takes a value of this type option that is there.
 fn put_value<P: Pen>(
     writer: &mut TextWriter<P>,
     form: Form,
-    kind: Kind,
+    option: &[u8],
     item: &Item<'_>,
 ) -> Result<(), SinkFault>
-    ensures { Writes writer.old (value_text form kind (found_of item.now)) result writer.new }
+    ensures { Writes writer.old (value_text form option.now (found_of item.now)) result writer.new }
 {
     match form {
-        Form::Line => put_line_value(writer, kind, item),
-        Form::Json => put_json_value(writer, kind, item),
+        Form::Line => put_line_value(writer, option, item),
+        Form::Json => put_json_value(writer, option, item),
     }
 }
 
 fn put_line_value<P: Pen>(
     writer: &mut TextWriter<P>,
-    kind: Kind,
+    option: &[u8],
     item: &Item<'_>,
 ) -> Result<(), SinkFault>
-    ensures { Writes writer.old (line_item kind (found_of item.now)) result writer.new }
+    ensures { Writes writer.old (line_item option.now (found_of item.now)) result writer.new }
 {
     match *item {
         Item::Missing => writer.put(b""),
@@ -244,8 +242,22 @@ fn put_line_value<P: Pen>(
             bytes: [],
             is_whole: true,
         } => writer.put(b"empty"),
-        Item::Content { bytes, is_whole } => put_content(writer, kind, bytes, is_whole),
+        Item::Content { bytes, is_whole } => put_line_content(writer, option, bytes, is_whole),
     }
+}
+
+fn put_line_content<P: Pen>(
+    writer: &mut TextWriter<P>,
+    option: &[u8],
+    bytes: &[u8],
+    is_whole: bool,
+) -> Result<(), SinkFault>
+    ensures { Writes writer.old (line_content option.now bytes.now is_whole) result writer.new }
+{
+    if is_whole && is_nested(option, bytes) {
+        return put_typed(writer, Form::Line, DEEPEST, option, bytes);
+    }
+    put_content(writer, kind_at(option), bytes, is_whole)
 }
 
 fn put_content<P: Pen>(
@@ -269,10 +281,10 @@ fn more(is_whole: bool) -> &'static str
 
 fn put_json_value<P: Pen>(
     writer: &mut TextWriter<P>,
-    kind: Kind,
+    option: &[u8],
     item: &Item<'_>,
 ) -> Result<(), SinkFault>
-    ensures { Writes writer.old (json_item kind (found_of item.now)) result writer.new }
+    ensures { Writes writer.old (json_item option.now (found_of item.now)) result writer.new }
 {
     match *item {
         Item::Missing => writer.put(b""),
@@ -282,8 +294,20 @@ fn put_json_value<P: Pen>(
             bytes: [],
             is_whole: true,
         } => writer.put(b"\"\""),
-        Item::Content { bytes, is_whole } => {
-            put_scalar(&shown_scalar(kind, bytes, is_whole), writer)
-        }
+        Item::Content { bytes, is_whole } => put_json_content(writer, option, bytes, is_whole),
     }
+}
+
+fn put_json_content<P: Pen>(
+    writer: &mut TextWriter<P>,
+    option: &[u8],
+    bytes: &[u8],
+    is_whole: bool,
+) -> Result<(), SinkFault>
+    ensures { Writes writer.old (json_content option.now bytes.now is_whole) result writer.new }
+{
+    if is_whole && is_nested(option, bytes) {
+        return put_typed(writer, Form::Json, DEEPEST, option, bytes);
+    }
+    put_scalar(&shown_scalar(kind_at(option), bytes, is_whole), writer)
 }

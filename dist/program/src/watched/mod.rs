@@ -9,6 +9,7 @@ mod facts;
 mod statements;
 mod summaries;
 mod tables;
+mod values;
 
 use crate::cqlp_capture::{CaptureEvent, CaptureLimits, CaptureReader, CaptureStep};
 use crate::cqlp_tcp_connections::ConnectionLimits;

@@ -4,7 +4,6 @@
 use crate::cqlp_bound_values::column_types::ColumnTypes;
 use crate::cqlp_bound_values::field::{behind_long_string, behind_string, has, string_at};
 use crate::cqlp_bound_values::item::{Item, behind_item};
-use crate::cqlp_kind::Kind;
 use crate::cqlp_note::{Header, Opcode};
 
 /// What a request binds to its statement.
@@ -123,9 +122,9 @@ impl<'a> BoundValues<'a> {
         self.are_named
     }
 
-    /// The kind of the first one.
-    pub(crate) fn kind(&self) -> Kind {
-        self.types.kind()
+    /// The type option of the first one, and what comes behind it.
+    pub(crate) fn option(&self) -> &'a [u8] {
+        self.types.option()
     }
 
     /// The name of the first one.

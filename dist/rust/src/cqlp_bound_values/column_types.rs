@@ -1,8 +1,11 @@
 // Written by dist/erase from crates/cqlp_bound_values/src/column_types.rt.
 //! The types of the columns that a statement binds, where they lie in the metadata of its PREPARED response.
 
-use crate::cqlp_bound_values::field::{behind, behind_string, int_at, short_at};
+use crate::cqlp_bound_values::field::{behind, behind_string, int_at, is_end, short_at};
 use crate::cqlp_kind::Kind;
+
+/// How deep types are nested at most, the outermost counted; of a deeper one nothing is known.
+pub(crate) const DEEPEST: u32 = 16;
 
 /// The types of columns, one after the other, as far as they are there.
 #[derive(Clone, Copy)]
@@ -28,21 +31,16 @@ impl<'a> ColumnTypes<'a> {
         }
     }
 
-    /// The kind of the first column, or that of a cell whose type is not known.
-    pub(crate) fn kind(&self) -> Kind {
-        kind_at(self.option())
-    }
-
     /// Those of the other columns.
     pub(crate) fn others(self) -> ColumnTypes<'a> {
         ColumnTypes {
             have_tables: self.have_tables,
-            bytes: behind_option(self.option()),
+            bytes: behind_option(DEEPEST, self.option()),
         }
     }
 
     /// The type option of the first column, and what comes behind it.
-    fn option(&self) -> &'a [u8] {
+    pub(crate) fn option(&self) -> &'a [u8] {
         if self.have_tables {
             behind_string(behind_tables(self.bytes))
         } else {
@@ -52,7 +50,7 @@ impl<'a> ColumnTypes<'a> {
 }
 
 /// What comes behind a keyspace and a table.
-fn behind_tables(bytes: &[u8]) -> &[u8] {
+pub(crate) fn behind_tables(bytes: &[u8]) -> &[u8] {
     behind_string(behind_string(bytes))
 }
 
@@ -78,7 +76,7 @@ fn has_tables(flags: u32) -> bool {
 }
 
 /// The kind of a type option. Section 4.2.5.2 of `native_protocol_v4.spec`.
-fn kind_at(option: &[u8]) -> Kind {
+pub(crate) fn kind_at(option: &[u8]) -> Kind {
     if option.len() < 2 {
         return Kind::Raw;
     }
@@ -88,28 +86,46 @@ fn kind_at(option: &[u8]) -> Kind {
     }
 }
 
-/// What comes behind a type option; nothing, where it holds one of several options. Then no more types are known.
-fn behind_option(option: &[u8]) -> &[u8] {
-    let rest = behind(2, option);
-    match kind_at(option) {
-        Kind::List | Kind::Set => behind_inner(rest),
-        Kind::Map => behind_inner(behind_inner(rest)),
-        kind => behind_kind(kind, rest),
+/// What comes behind a type option in which so many are nested at most, itself counted; else nothing, and then no more types are known.
+pub(crate) fn behind_option(depth: u32, option: &[u8]) -> &[u8] {
+    if depth == 0 {
+        return behind(option.len(), option);
+    }
+    behind_kind(depth - 1, kind_at(option), behind(2, option))
+}
+
+/// What comes behind a type option, from behind its id on.
+fn behind_kind(depth: u32, kind: Kind, bytes: &[u8]) -> &[u8] {
+    match kind {
+        Kind::Custom => behind_string(bytes),
+        Kind::List | Kind::Set => behind_option(depth, bytes),
+        Kind::Map => behind_option(depth, behind_option(depth, bytes)),
+        Kind::Udt => behind_fields(depth, true, behind_tables(bytes)),
+        Kind::Tuple => behind_fields(depth, false, bytes),
+        Kind::Raw => behind(bytes.len(), bytes),
+        _ => bytes,
     }
 }
 
-/// What comes behind a type option in another one; nothing, where it holds one itself.
-fn behind_inner(option: &[u8]) -> &[u8] {
-    behind_kind(kind_at(option), behind(2, option))
+/// What comes behind a number of fields and the fields.
+fn behind_fields(depth: u32, are_named: bool, bytes: &[u8]) -> &[u8] {
+    let mut left = short_at(bytes);
+    let mut rest = behind(2, bytes);
+    while left > 0 {
+        if is_end(rest) {
+            return rest;
+        }
+        rest = behind_option(depth, field_option(are_named, rest));
+        left -= 1;
+    }
+    rest
 }
 
-/// What comes behind a type option without others in it, from behind its id on; nothing of one that has some.
-fn behind_kind(kind: Kind, bytes: &[u8]) -> &[u8] {
-    match kind {
-        Kind::Custom => behind_string(bytes),
-        Kind::List | Kind::Map | Kind::Set | Kind::Udt | Kind::Tuple | Kind::Raw => {
-            behind(bytes.len(), bytes)
-        }
-        _ => bytes,
+/// The type option of a field, which in a user-defined type is behind its name.
+pub(crate) fn field_option(are_named: bool, field: &[u8]) -> &[u8] {
+    if are_named {
+        behind_string(field)
+    } else {
+        field
     }
 }

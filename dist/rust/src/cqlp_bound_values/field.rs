@@ -38,6 +38,11 @@ pub(crate) fn behind_long_string(bytes: &[u8]) -> &[u8] {
     behind(int_at(bytes) as usize, behind(4, bytes))
 }
 
+/// Whether there are no more bytes.
+pub(crate) fn is_end(bytes: &[u8]) -> bool {
+    bytes.is_empty()
+}
+
 /// The longest front of bytes that is UTF-8.
 pub(crate) fn text_front(bytes: &[u8]) -> &str {
     match str::from_utf8(bytes) {

@@ -38,6 +38,21 @@ impl<'a> Item<'a> {
         Item::content(length as usize, content)
     }
 
+    /// An item of a value, which is null where its length is negative.
+    pub(crate) fn inner_at(bytes: &'a [u8]) -> Item<'a> {
+        if bytes.len() < 4 {
+            return Item::Missing;
+        }
+        Item::inner_of(int_at(bytes), behind(4, bytes))
+    }
+
+    fn inner_of(length: u32, content: &'a [u8]) -> Item<'a> {
+        if length >= 0x8000_0000 {
+            return Item::Null;
+        }
+        Item::content(length as usize, content)
+    }
+
     fn content(length: usize, content: &'a [u8]) -> Item<'a> {
         Item::Content {
             bytes: &content[..content.len().min(length)],

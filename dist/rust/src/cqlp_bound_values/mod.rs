@@ -4,7 +4,10 @@
 mod binding;
 mod column_types;
 mod field;
+mod form;
 mod item;
+mod nested;
+mod nested_text;
 mod scalars;
 mod text;
 

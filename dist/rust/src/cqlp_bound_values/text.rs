@@ -2,21 +2,18 @@
 //! Values that are bound, as a part of a line and as members of a JSON object.
 
 use crate::cqlp_bound_values::binding::{Binding, BoundValues};
+use crate::cqlp_bound_values::column_types::{DEEPEST, kind_at};
 use crate::cqlp_bound_values::field::text_front;
+use crate::cqlp_bound_values::form::Form;
 use crate::cqlp_bound_values::item::Item;
+use crate::cqlp_bound_values::nested::is_nested;
+use crate::cqlp_bound_values::nested_text::put_typed;
 use crate::cqlp_bound_values::scalars::shown_scalar;
 use crate::cqlp_capture_summary::put_shown_text;
 use crate::cqlp_grammar::SinkFault;
 use crate::cqlp_json::{put_scalar, put_string};
 use crate::cqlp_kind::Kind;
 use crate::cqlp_text::{Pen, TextWriter};
-
-/// How values are written.
-#[derive(Clone, Copy)]
-enum Form {
-    Line,
-    Json,
-}
 
 /// Takes what a line has of the values that a request binds: each as `cqlp rows` writes a cell; nothing where there are none, or none is seen.
 ///
@@ -125,7 +122,7 @@ fn put_present<P: Pen>(
 ) -> Result<(), SinkFault> {
     writer.put_str(separator(form, is_first))?;
     put_name(writer, form, values)?;
-    put_value(writer, form, values.kind(), item)?;
+    put_value(writer, form, values.option(), item)?;
     writer.put_str(behind_named(form, values.are_named()))
 }
 
@@ -177,22 +174,22 @@ fn put_json_name<P: Pen>(writer: &mut TextWriter<P>, name: &str) -> Result<(), S
     writer.put(b":")
 }
 
-/// Takes a value of this kind that is there.
+/// Takes a value of this type option that is there.
 fn put_value<P: Pen>(
     writer: &mut TextWriter<P>,
     form: Form,
-    kind: Kind,
+    option: &[u8],
     item: &Item<'_>,
 ) -> Result<(), SinkFault> {
     match form {
-        Form::Line => put_line_value(writer, kind, item),
-        Form::Json => put_json_value(writer, kind, item),
+        Form::Line => put_line_value(writer, option, item),
+        Form::Json => put_json_value(writer, option, item),
     }
 }
 
 fn put_line_value<P: Pen>(
     writer: &mut TextWriter<P>,
-    kind: Kind,
+    option: &[u8],
     item: &Item<'_>,
 ) -> Result<(), SinkFault> {
     match *item {
@@ -203,8 +200,20 @@ fn put_line_value<P: Pen>(
             bytes: [],
             is_whole: true,
         } => writer.put(b"empty"),
-        Item::Content { bytes, is_whole } => put_content(writer, kind, bytes, is_whole),
+        Item::Content { bytes, is_whole } => put_line_content(writer, option, bytes, is_whole),
     }
+}
+
+fn put_line_content<P: Pen>(
+    writer: &mut TextWriter<P>,
+    option: &[u8],
+    bytes: &[u8],
+    is_whole: bool,
+) -> Result<(), SinkFault> {
+    if is_whole && is_nested(option, bytes) {
+        return put_typed(writer, Form::Line, DEEPEST, option, bytes);
+    }
+    put_content(writer, kind_at(option), bytes, is_whole)
 }
 
 fn put_content<P: Pen>(
@@ -224,7 +233,7 @@ fn more(is_whole: bool) -> &'static str {
 
 fn put_json_value<P: Pen>(
     writer: &mut TextWriter<P>,
-    kind: Kind,
+    option: &[u8],
     item: &Item<'_>,
 ) -> Result<(), SinkFault> {
     match *item {
@@ -235,8 +244,18 @@ fn put_json_value<P: Pen>(
             bytes: [],
             is_whole: true,
         } => writer.put(b"\"\""),
-        Item::Content { bytes, is_whole } => {
-            put_scalar(&shown_scalar(kind, bytes, is_whole), writer)
-        }
+        Item::Content { bytes, is_whole } => put_json_content(writer, option, bytes, is_whole),
     }
+}
+
+fn put_json_content<P: Pen>(
+    writer: &mut TextWriter<P>,
+    option: &[u8],
+    bytes: &[u8],
+    is_whole: bool,
+) -> Result<(), SinkFault> {
+    if is_whole && is_nested(option, bytes) {
+        return put_typed(writer, Form::Json, DEEPEST, option, bytes);
+    }
+    put_scalar(&shown_scalar(kind_at(option), bytes, is_whole), writer)
 }

@@ -18,11 +18,11 @@ pub returns-in_err-put_value : goal.returns-in_err-put_value
 returns-in_err-put_value g c =
     let s1 = said_next _ (progress_starts _ _) refl c.separator.ensures c.in_ok-put_str.ensures in
     let s2 = said_next _ s1 refl refl c.in_ok-put_name.ensures in
-    said_stops _ c.from_residual-in_err-put_value.result c.from_residual-in_err-put_value.ensures.0 s2 refl (ap (λ k. value_text c.args.form k (found_of c.args.item.now)) c.kind.ensures) c.in_err-put_value.ensures
+    said_stops _ c.from_residual-in_err-put_value.result c.from_residual-in_err-put_value.ensures.0 s2 refl (ap (λ o. value_text c.args.form o (found_of c.args.item.now)) c.option.ensures) c.in_err-put_value.ensures
 
 pub returns : goal.returns
 returns g c =
     let s1 = said_next _ (progress_starts _ _) refl c.separator.ensures c.in_ok-put_str.ensures in
     let s2 = said_next _ s1 refl refl c.in_ok-put_name.ensures in
-    let s3 = said_next _ s2 refl (ap (λ k. value_text c.args.form k (found_of c.args.item.now)) c.kind.ensures) c.in_ok-put_value.ensures in
+    let s3 = said_next _ s2 refl (ap (λ o. value_text c.args.form o (found_of c.args.item.now)) c.option.ensures) c.in_ok-put_value.ensures in
     said_last _ _ c.put_str-2.result s3 refl (c.behind_named.ensures ∙ ap (behind_named c.args.form) c.are_named.ensures) c.put_str-2.ensures
