@@ -2,6 +2,7 @@ pub mod Steps
 pub mod Several
 pub mod Counted
 pub mod Optional
+pub mod Plain
 pub mod RequestParts
 pub mod ResponseParts
 pub mod TypeParts
@@ -14,6 +15,7 @@ pub mod Cells
 pub mod Rows
 pub mod Columns
 pub mod PageParts
+pub mod Runs
 pub mod Finishing
 pub mod Closing
 pub mod Taking

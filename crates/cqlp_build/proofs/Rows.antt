@@ -147,7 +147,7 @@ row_more row column NoMore vs ws is = refl
 row_more row column (Type_and k inner others) [] ws is = absurd (omega (arith, is))
 row_more row column (Type_and k inner others) (v ∷ vs) ws is = ap (λ t. Cell_is row column k inner v ∷ t) (row_more row (column + 1) others vs ws (omega (arith, is)))
 
-rows_more : (row : ℕ) (ts : Types) (n : ℕ) (vs ws : List Values) → length vs ≡ how_many ts → rows_parts row ts (suc n) (vs ++ ws) ≡ row_parts row 0 ts vs ++ rows_parts (row + 1) ts n ws
+pub rows_more : (row : ℕ) (ts : Types) (n : ℕ) (vs ws : List Values) → length vs ≡ how_many ts → rows_parts row ts (suc n) (vs ++ ws) ≡ row_parts row 0 ts vs ++ rows_parts (row + 1) ts n ws
 rows_more row ts n vs ws is = rw (row_more row 0 ts vs ws is, drop_at vs ws (how_many ts) is) refl
 
 module _ (ts : Types) where

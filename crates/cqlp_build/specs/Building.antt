@@ -117,6 +117,11 @@ abbrev pub is_end : Event → Bool
 is_end (End x) = true
 is_end e = false
 
+-- a scalar of a cell
+abbrev pub is_leaf : Event → Bool
+is_leaf (Cell_at row column (cell.Leaf level v)) = true
+is_leaf e = false
+
 -- what comes between a header and an end
 abbrev pub is_inner : Event → Bool
 is_inner (Frame h) = false

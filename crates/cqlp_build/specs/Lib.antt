@@ -1,4 +1,8 @@
 pub mod Emitted
+pub mod Held
+pub mod Plain
+pub mod Run
+pub mod WholePage
 pub mod FrameEvents
 pub mod Types
 pub mod Nesting

@@ -1,12 +1,11 @@
 //! Frames, built of their events.
 
-ghost use Rattle.std.specs.Prelude.{◌≡◌, ◌+◌, ◌<◌, ◌≤◌, ◌↔◌, IfErr, IfOk, IsTrue, OnOk, [], length, true};
-ghost use Rattle.std.specs.VecDeque.{deque_capacity, deque_len};
+ghost use Rattle.std.specs.Prelude.{◌≡◌, ◌+◌, ◌<◌, ◌≤◌, ◌↔◌, IfErr, IfOk, IsTrue, [], length, true};
 ghost use Rattle.cqlp_grammar.specs.Events as model;
 ghost use Rattle.cqlp_grammar.specs.Events.{event_of};
 ghost use Rattle.cqlp_build.specs.declared.error.BuildError.TheVariants as error;
 ghost use Rattle.cqlp_build.specs.Building as building;
-ghost use Rattle.cqlp_build.specs.Building.{BeginsWith, Finishes, IsOfHeader, TakesEvent, Reports, empty, is_inner, state};
+ghost use Rattle.cqlp_build.specs.Building.{BeginsWith, Finishes, IsOfHeader, TakesEvent, Reports, empty, is_inner, is_leaf, state};
 ghost use Rattle.cqlp_build.specs.Closing.{Closes, ClosesAt, IsOfSome, ReportsOf};
 ghost use Rattle.cqlp_build.specs.FrameEvents.{left};
 ghost use Rattle.cqlp_build.specs.Nesting.{depth_at};
@@ -15,14 +14,13 @@ ghost use Rattle.cqlp_message.specs.Owned.{frame_of};
 
 use crate::error::BuildError;
 use crate::held::{Fault, FrameEvents};
-use crate::item::own;
+use crate::held_events::HeldEvents;
 use crate::nesting::Nesting;
 use cqlp_build_cells::{CellEvents, scalar_size};
 use cqlp_grammar::Event;
 use cqlp_message::Frame;
 use cqlp_note::{BoundValue, Header};
-use std::alloc::{AllocError, Global};
-use std::collections::VecDeque;
+use std::alloc::Global;
 
 /// What a builder may hold of one frame.
 #[derive(Clone, Copy, Debug, PartialEq, Eq)]
@@ -46,9 +44,11 @@ pub struct BuiltFrame {
 
 /// Builds frames of their events, one frame after the other.
 ///
-/// It takes what [`Decoder::next`] gives, or what a [`Sink`] gets, in that order, and owns what it holds: for each field of the
-/// frame under way as much as an event has, and the field's bytes. So no count that a peer sends decides how much memory it asks for,
-/// and the limits bound it.
+/// It takes what [`Decoder::next`] gives, or what a [`Sink`] gets, in that order, and owns what it holds: the events of the frame under
+/// way. So no count that a peer sends decides how much memory it asks for, and the limits bound it. Of each scalar, null or empty cell of
+/// a page, row by row from the first on until another event comes, it holds the value, 32 bytes; where these are a whole page, the frame's
+/// page is made of them as they lie there. Of any other event it holds 48 bytes. The bytes of texts and contents come in addition, each in an
+/// allocation of its own, and while a list of values or events grows, it may have room for twice as many.
 ///
 /// A proxy reads a frame, alters the value, and writes it:
 ///
@@ -85,7 +85,7 @@ impl FrameBuilder {
         FrameBuilder {
             held: FrameEvents {
                 alloc,
-                items: VecDeque::new(alloc),
+                items: HeldEvents::new(alloc),
                 cell: CellEvents::new(alloc),
                 fault: None,
             },
@@ -107,12 +107,14 @@ impl FrameBuilder {
     /// [`BuildError::NoFrame`] at the end of a frame, where the events are those of no frame that is built, after which the builder is
     /// between frames. [`BuildError::NoMemory`] where memory was refused, after which it is as it was, or between frames where the
     /// event is an end.
+    #[inline]
     pub fn take(&mut self, event: &Event<'_>) -> Result<Option<BuiltFrame>, BuildError>
         ensures { TakesEvent (state self.old) (event_of event.now) result (state self.new) }
     {
         match event {
             Event::Frame(header) => self.begin(*header),
             Event::End { extra } => self.end(*extra),
+            Event::Leaf { .. } => self.hold_scalar(event),
             _ => self.hold(event),
         }
     }
@@ -183,6 +185,7 @@ impl FrameBuilder {
     }
 
     /// A frame begins.
+    #[inline(never)]
     fn begin(&mut self, header: Header) -> Result<Option<BuiltFrame>, BuildError>
         ensures { TakesEvent (state self.old) (model.Frame header) result (state self.new) }
     {
@@ -195,6 +198,7 @@ impl FrameBuilder {
     }
 
     /// A frame ends, with this many bytes after its last field.
+    #[inline(never)]
     fn end(&mut self, extra: u32) -> Result<Option<BuiltFrame>, BuildError>
         ensures { TakesEvent (state self.old) (model.End extra) result (state self.new) }
     {
@@ -210,6 +214,7 @@ impl FrameBuilder {
     }
 
     /// What comes between a header and an end.
+    #[inline(never)]
     fn hold(&mut self, event: &Event<'_>) -> Result<Option<BuiltFrame>, BuildError>
         requires { is_inner (event_of event.now) ≡ true }
         ensures { TakesEvent (state self.old) (event_of event.now) result (state self.new) }
@@ -230,26 +235,38 @@ impl FrameBuilder {
         if self.lacks_room(size) {
             return Err(BuildError::TooManyBytes);
         }
-        if self.make_room().is_err() {
+        if self.nesting.make_room().is_err() {
             return Err(BuildError::NoMemory);
         }
-        let Ok(item) = own(self.held.alloc, event) else {
+        if self.held.items.push(self.held.alloc, event).is_err() {
             return Err(BuildError::NoMemory);
-        };
-        self.held.items.push_back_reserved(item);
+        }
         self.nesting.pass_event(event);
         self.room -= size;
         Ok(None)
     }
 
-    /// Asks for room for one more event.
-    fn make_room(&mut self) -> Result<(), AllocError>
-        ensures is { state self.new ≡ state self.old }
-        ensures items { OnOk result (deque_len self.new.held.items + 1 ≤ deque_capacity self.new.held.items) }
-        ensures nesting { OnOk result (deque_len self.new.nesting.left + 1 ≤ deque_capacity self.new.nesting.left) }
+    /// A scalar of a cell.
+    #[inline(always)]
+    fn hold_scalar(&mut self, event: &Event<'_>) -> Result<Option<BuiltFrame>, BuildError>
+        requires { is_leaf (event_of event.now) ≡ true }
+        ensures { TakesEvent (state self.old) (event_of event.now) result (state self.new) }
     {
-        self.held.items.reserve(1)?;
-        self.nesting.make_room()
+        if self.is_between() {
+            return Err(BuildError::Misplaced);
+        }
+        if self.is_full() {
+            return Err(BuildError::TooManyFields);
+        }
+        let size = content_size(event);
+        if self.lacks_room(size) {
+            return Err(BuildError::TooManyBytes);
+        }
+        if self.held.items.push(self.held.alloc, event).is_err() {
+            return Err(BuildError::NoMemory);
+        }
+        self.room -= size;
+        Ok(None)
     }
 
     /// Whether it holds as many fields as it may.

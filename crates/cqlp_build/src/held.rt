@@ -8,13 +8,13 @@ ghost use Rattle.cqlp_message.specs.Owned.{bound_of, bytes_of};
 ghost use Rattle.cqlp_build.specs.FrameEvents.{Builds, HoldsFewer, HoldsNoMore, TakesField, TakesKind, TakesStep, TakesValue, any, first_fault};
 
 use crate::content::FromContent;
+use crate::held_events::HeldEvents;
 use crate::item::{Content, Item};
 use cqlp_build_cells::{CellEvents, Step};
 use cqlp_kind::Kind;
 use cqlp_message::OwnedBound;
 use cqlp_note::{Address, Field};
 use std::alloc::Global;
-use std::collections::VecDeque;
 
 /// Whether some of these bits is set.
 pub(crate) fn has_flag(flags: u8, bits: u8) -> bool
@@ -37,7 +37,7 @@ pub(crate) enum Fault {
 #[derive(Drop)]
 pub(crate) struct FrameEvents {
     pub alloc: Global,
-    pub items: VecDeque<Item>,
+    pub items: HeldEvents,
     /// The events of the cell that is under way.
     pub cell: CellEvents,
     pub fault: Option<Fault>,

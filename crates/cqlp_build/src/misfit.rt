@@ -20,8 +20,8 @@ impl FrameEvents {
         if !is_directed(header) {
             return Ok(0);
         }
-        let possible = self.possible();
-        if self.items.push_back(no_item()).is_err() {
+        let possible = self.items.possible();
+        if self.items.push_item(no_item()).is_err() {
             return Err(BuildError::NoMemory);
         }
         let all = self.items.len();
@@ -48,16 +48,6 @@ impl FrameEvents {
             None => Some(left.saturating_sub(1)),
         }
     }
-
-    /// How many events come before the first that is in no frame.
-    fn possible(&self) -> usize {
-        for (at, item) in self.items.iter().enumerate() {
-            if is_impossible(item) {
-                return at;
-            }
-        }
-        self.items.len()
-    }
 }
 
 /// What comes next in no frame.
@@ -66,7 +56,7 @@ fn no_item() -> Item {
 }
 
 /// Whether a field holds more than its notation has room for, or a value that has no bytes begins.
-fn is_impossible(item: &Item) -> bool {
+pub(crate) fn is_impossible(item: &Item) -> bool {
     match item {
         Item::Cell {
             step: Step::Enter(Kind::Tuple | Kind::Udt, 0),

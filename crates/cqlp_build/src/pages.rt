@@ -37,6 +37,21 @@ impl FrameEvents {
         ensures { Builds (λ vs. emitted (cells_parts (metadata_of meta.now) rows vs)) (AreCells (metadata_of meta.now) rows)
             (map value_of result.items) self.old self.new }
     {
+        if self.fault.is_some() {
+            return self.rows(rows, meta);
+        }
+        match self.items.take_page(self.alloc, rows, meta) {
+            Some(cells) => cells,
+            None => self.rows(rows, meta),
+        }
+    }
+
+    /// Takes the cells of this many rows, one row after the other.
+    fn rows(&mut self, rows: u32, meta: &Metadata) -> Vec<Value>
+        requires { IsSound self.old → AreReadable (metadata_of meta.now) }
+        ensures { Builds (λ vs. emitted (cells_parts (metadata_of meta.now) rows vs)) (AreCells (metadata_of meta.now) rows)
+            (map value_of result.items) self.old self.new }
+    {
         let mut cells = Vec::new(self.alloc);
         if self.fault.is_some() {
             return cells;

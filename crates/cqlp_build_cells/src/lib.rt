@@ -11,4 +11,4 @@ mod values;
 pub use builder::{CellBuilder, CellLimits, ends_cell};
 pub use error::CellError;
 pub use held::CellEvents;
-pub use step::{Step, ends, own, scalar_size};
+pub use step::{Step, ends, own, own_scalar, scalar_size};

@@ -30,26 +30,27 @@ pub fn own(alloc: Global, event: &Event<'_>) -> Result<(u32, Step), AllocError>
     requires { is_whole (event_of event.now) ≡ true }
     ensures { IfOk result (λ s. cell_of (event_of event.now) ≡ Some (emitted_by s)) }
 {
-    Ok(match *event {
-        Event::Leaf { level, scalar, .. } => (level, Step::Leaf(own_scalar(alloc, scalar)?)),
-        Event::Null { level, .. } => (level, Step::Null),
-        Event::Empty { level, .. } => (level, Step::Empty),
+    Ok(match event {
+        Event::Leaf { level, scalar, .. } => (*level, Step::Leaf(own_scalar(alloc, scalar)?)),
+        Event::Null { level, .. } => (*level, Step::Null),
+        Event::Empty { level, .. } => (*level, Step::Empty),
         Event::Enter {
             level,
             kind,
             items,
             ..
-        } => (level, Step::Enter(kind, items)),
-        Event::Leave { level, items } => (level, Step::Leave(items)),
+        } => (*level, Step::Enter(*kind, *items)),
+        Event::Leave { level, items } => (*level, Step::Leave(*items)),
         _ => unreachable!(),
     })
 }
 
 /// The same scalar, with bytes of its own.
-fn own_scalar(alloc: Global, scalar: Scalar<'_>) -> Result<Atom, AllocError>
-    ensures { IfOk result (λ atom. atom_of atom ≡ value_of scalar.entry) }
+#[inline(always)]
+pub fn own_scalar(alloc: Global, scalar: &Scalar<'_>) -> Result<Atom, AllocError>
+    ensures { IfOk result (λ atom. atom_of atom ≡ value_of scalar.now) }
 {
-    let atom = match scalar {
+    let atom = match *scalar {
         Scalar::Custom(bytes) => Atom::Custom(Vec::from_slice(alloc, bytes)?),
         Scalar::Ascii(text) => Atom::Ascii(String::from_str(alloc, text)?),
         Scalar::Bigint(number) => Atom::Bigint(number),

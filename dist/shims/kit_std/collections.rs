@@ -16,7 +16,7 @@ impl<T> VecDeque<T> {
         VecDeque { items: Deque::new() }
     }
 
-    pub fn reserve(&mut self, more: usize) -> Result<(), AllocError> {
+    pub fn kit_reserve(&mut self, more: usize) -> Result<(), AllocError> {
         self.items.try_reserve(more).map_err(|_| AllocError)
     }
 
@@ -34,14 +34,14 @@ impl<T> VecDeque<T> {
     }
 
     pub fn push_back(&mut self, item: T) -> Result<(), AllocError> {
-        self.reserve(1)?;
+        self.kit_reserve(1)?;
         self.items.push_back(item);
         Ok(())
     }
 
     /// Adds an item before the one at this index, or at the end; it comes back where memory is refused.
     pub fn insert(&mut self, at: usize, item: T) -> Result<(), AllocFailed<T>> {
-        match self.reserve(1) {
+        match self.kit_reserve(1) {
             Err(AllocError) => return Err(AllocFailed(item)),
             Ok(()) if at == self.items.len() => self.items.push_back(item),
             Ok(()) => self.items.insert(at, item),

@@ -1,16 +1,15 @@
 // Written by dist/erase from crates/cqlp_build/src/builder.rt.
 //! Frames, built of their events.
 
+use crate::kit_std::prelude::{KitVec};
 use crate::cqlp_build::error::BuildError;
 use crate::cqlp_build::held::{Fault, FrameEvents};
-use crate::cqlp_build::item::own;
+use crate::cqlp_build::held_events::HeldEvents;
 use crate::cqlp_build::nesting::Nesting;
 use crate::cqlp_build_cells::{CellEvents, scalar_size};
 use crate::cqlp_grammar::Event;
 use crate::cqlp_message::Frame;
 use crate::cqlp_note::{BoundValue, Header};
-use crate::kit_std::alloc::{AllocError};
-use crate::kit_std::collections::VecDeque;
 
 /// What a builder may hold of one frame.
 #[derive(Clone, Copy, Debug, PartialEq, Eq)]
@@ -34,9 +33,11 @@ pub struct BuiltFrame {
 
 /// Builds frames of their events, one frame after the other.
 ///
-/// It takes what [`Decoder::next`] gives, or what a [`Sink`] gets, in that order, and owns what it holds: for each field of the
-/// frame under way as much as an event has, and the field's bytes. So no count that a peer sends decides how much memory it asks for,
-/// and the limits bound it.
+/// It takes what [`Decoder::next`] gives, or what a [`Sink`] gets, in that order, and owns what it holds: the events of the frame under
+/// way. So no count that a peer sends decides how much memory it asks for, and the limits bound it. Of each scalar, null or empty cell of
+/// a page, row by row from the first on until another event comes, it holds the value, 32 bytes; where these are a whole page, the frame's
+/// page is made of them as they lie there. Of any other event it holds 48 bytes. The bytes of texts and contents come in addition, each in an
+/// allocation of its own, and while a list of values or events grows, it may have room for twice as many.
 ///
 /// A proxy reads a frame, alters the value, and writes it:
 ///
@@ -69,7 +70,7 @@ impl FrameBuilder {
     pub fn new(limits: BuildLimits) -> FrameBuilder {
         FrameBuilder {
             held: FrameEvents {
-                items: VecDeque::new(),
+                items: HeldEvents::new(),
                 cell: CellEvents::new(),
                 fault: None,
             },
@@ -91,10 +92,12 @@ impl FrameBuilder {
     /// [`BuildError::NoFrame`] at the end of a frame, where the events are those of no frame that is built, after which the builder is
     /// between frames. [`BuildError::NoMemory`] where memory was refused, after which it is as it was, or between frames where the
     /// event is an end.
+    #[inline]
     pub fn take(&mut self, event: &Event<'_>) -> Result<Option<BuiltFrame>, BuildError> {
         match event {
             Event::Frame(header) => self.begin(*header),
             Event::End { extra } => self.end(*extra),
+            Event::Leaf { .. } => self.hold_scalar(event),
             _ => self.hold(event),
         }
     }
@@ -153,6 +156,7 @@ impl FrameBuilder {
     }
 
     /// A frame begins.
+    #[inline(never)]
     fn begin(&mut self, header: Header) -> Result<Option<BuiltFrame>, BuildError> {
         if self.header.is_some() {
             return Err(BuildError::Misplaced);
@@ -163,6 +167,7 @@ impl FrameBuilder {
     }
 
     /// A frame ends, with this many bytes after its last field.
+    #[inline(never)]
     fn end(&mut self, extra: u32) -> Result<Option<BuiltFrame>, BuildError> {
         let Some(header) = self.header else {
             return Err(BuildError::Misplaced);
@@ -176,6 +181,7 @@ impl FrameBuilder {
     }
 
     /// What comes between a header and an end.
+    #[inline(never)]
     fn hold(&mut self, event: &Event<'_>) -> Result<Option<BuiltFrame>, BuildError> {
         if self.is_between() {
             return Err(BuildError::Misplaced);
@@ -193,22 +199,35 @@ impl FrameBuilder {
         if self.lacks_room(size) {
             return Err(BuildError::TooManyBytes);
         }
-        if self.make_room().is_err() {
+        if self.nesting.make_room().is_err() {
             return Err(BuildError::NoMemory);
         }
-        let Ok(item) = own(event) else {
+        if self.held.items.kit_push(event).is_err() {
             return Err(BuildError::NoMemory);
-        };
-        self.held.items.push_back_reserved(item);
+        }
         self.nesting.pass_event(event);
         self.room -= size;
         Ok(None)
     }
 
-    /// Asks for room for one more event.
-    fn make_room(&mut self) -> Result<(), AllocError> {
-        self.held.items.reserve(1)?;
-        self.nesting.make_room()
+    /// A scalar of a cell.
+    #[inline(always)]
+    fn hold_scalar(&mut self, event: &Event<'_>) -> Result<Option<BuiltFrame>, BuildError> {
+        if self.is_between() {
+            return Err(BuildError::Misplaced);
+        }
+        if self.is_full() {
+            return Err(BuildError::TooManyFields);
+        }
+        let size = content_size(event);
+        if self.lacks_room(size) {
+            return Err(BuildError::TooManyBytes);
+        }
+        if self.held.items.kit_push(event).is_err() {
+            return Err(BuildError::NoMemory);
+        }
+        self.room -= size;
+        Ok(None)
     }
 
     /// Whether it holds as many fields as it may.

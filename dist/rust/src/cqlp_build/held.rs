@@ -3,12 +3,12 @@
 
 use crate::kit_std::prelude::{String, Vec};
 use crate::cqlp_build::content::FromContent;
+use crate::cqlp_build::held_events::HeldEvents;
 use crate::cqlp_build::item::{Content, Item};
 use crate::cqlp_build_cells::{CellEvents, Step};
 use crate::cqlp_kind::Kind;
 use crate::cqlp_message::OwnedBound;
 use crate::cqlp_note::{Address, Field};
-use crate::kit_std::collections::VecDeque;
 
 /// Whether some of these bits is set.
 pub(crate) fn has_flag(flags: u8, bits: u8) -> bool {
@@ -27,7 +27,7 @@ pub(crate) enum Fault {
 /// The events after a header, each of which is taken once. What takes one gives a value, and where another event was due some
 /// value, and keeps the fault: nothing is taken after it.
 pub(crate) struct FrameEvents {
-    pub items: VecDeque<Item>,
+    pub items: HeldEvents,
     /// The events of the cell that is under way.
     pub cell: CellEvents,
     pub fault: Option<Fault>,

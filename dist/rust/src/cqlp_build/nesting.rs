@@ -1,6 +1,7 @@
 // Written by dist/erase from crates/cqlp_build/src/nesting.rt.
 //! How deep type options are nested.
 
+use crate::kit_std::prelude::{KitVec};
 use crate::cqlp_grammar::Event;
 use crate::cqlp_kind::Kind;
 use crate::cqlp_note::Field;
@@ -31,7 +32,7 @@ impl Nesting {
 
     /// Asks for room for one more.
     pub fn make_room(&mut self) -> Result<(), AllocError> {
-        self.left.reserve(1)
+        self.left.kit_reserve(1)
     }
 
     /// Goes on after an event, for which there is room.

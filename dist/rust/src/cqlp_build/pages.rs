@@ -21,6 +21,17 @@ impl FrameEvents {
 
     /// Takes the cells of this many rows.
     fn cells(&mut self, rows: u32, meta: &Metadata) -> Vec<Value> {
+        if self.fault.is_some() {
+            return self.rows(rows, meta);
+        }
+        match self.items.take_page(rows, meta) {
+            Some(cells) => cells,
+            None => self.rows(rows, meta),
+        }
+    }
+
+    /// Takes the cells of this many rows, one row after the other.
+    fn rows(&mut self, rows: u32, meta: &Metadata) -> Vec<Value> {
         let mut cells = Vec::new();
         if self.fault.is_some() {
             return cells;

@@ -43,7 +43,7 @@ impl CellEvents {
     ///
     /// [`AllocError`] where memory was refused, after which it is as it was.
     pub fn kit_push(&mut self, level: u32, step: Step) -> Result<(), AllocError> {
-        self.items.reserve(1)?;
+        self.items.kit_reserve(1)?;
         self.items.push_back_reserved((level, step));
         Ok(())
     }

@@ -10,5 +10,5 @@ mod values;
 pub use builder::{CellBuilder, CellLimits, ends_cell};
 pub use error::CellError;
 pub use held::CellEvents;
-pub use step::{Step, ends, scalar_size};
+pub use step::{Step, ends, own_scalar, scalar_size};
 pub(crate) use step::{own};

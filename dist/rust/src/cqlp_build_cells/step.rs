@@ -20,24 +20,25 @@ pub enum Step {
 
 /// The same, with bytes of its own, at its level.
 pub(crate) fn own(event: &Event<'_>) -> Result<(u32, Step), AllocError> {
-    Ok(match *event {
-        Event::Leaf { level, scalar, .. } => (level, Step::Leaf(own_scalar(scalar)?)),
-        Event::Null { level, .. } => (level, Step::Null),
-        Event::Empty { level, .. } => (level, Step::Empty),
+    Ok(match event {
+        Event::Leaf { level, scalar, .. } => (*level, Step::Leaf(own_scalar(scalar)?)),
+        Event::Null { level, .. } => (*level, Step::Null),
+        Event::Empty { level, .. } => (*level, Step::Empty),
         Event::Enter {
             level,
             kind,
             items,
             ..
-        } => (level, Step::Enter(kind, items)),
-        Event::Leave { level, items } => (level, Step::Leave(items)),
+        } => (*level, Step::Enter(*kind, *items)),
+        Event::Leave { level, items } => (*level, Step::Leave(*items)),
         _ => unreachable!(),
     })
 }
 
 /// The same scalar, with bytes of its own.
-fn own_scalar(scalar: Scalar<'_>) -> Result<Atom, AllocError> {
-    let atom = match scalar {
+#[inline(always)]
+pub fn own_scalar(scalar: &Scalar<'_>) -> Result<Atom, AllocError> {
+    let atom = match *scalar {
         Scalar::Custom(bytes) => Atom::Custom(Vec::from_slice(bytes)?),
         Scalar::Ascii(text) => Atom::Ascii(String::from_str(text)?),
         Scalar::Bigint(number) => Atom::Bigint(number),

@@ -11,6 +11,9 @@ pub trait KitVec<T>: Sized {
     /// Takes memory for exactly so many more items, where there is none for them yet.
     fn kit_reserve_exact(&mut self, more: usize) -> Result<(), AllocError>;
 
+    /// Takes memory for at least so many more items, where there is none for them yet.
+    fn kit_reserve(&mut self, more: usize) -> Result<(), AllocError>;
+
     /// Adds an item at the end; it comes back where memory is refused.
     fn kit_push(&mut self, item: T) -> Result<(), AllocFailed<T>>;
 
@@ -46,6 +49,11 @@ impl<T> KitVec<T> for Vec<T> {
 
     fn kit_reserve_exact(&mut self, more: usize) -> Result<(), AllocError> {
         self.try_reserve_exact(more).map_err(|_| AllocError)
+    }
+
+    #[inline]
+    fn kit_reserve(&mut self, more: usize) -> Result<(), AllocError> {
+        self.try_reserve(more).map_err(|_| AllocError)
     }
 
     #[inline]

@@ -4,7 +4,7 @@ use Rattle.cqlp_message.specs.Bodies.{cell_types}
 use Rattle.cqlp_message.specs.Owned.{metadata_of}
 use Rattle.cqlp_build.specs.FrameEvents.{IsSound}
 use Rattle.cqlp_build.proofs.Rows.{RowsRemain}
-use Rattle.cqlp_build.proofs.held.FrameEvents.cells.Given as goal
+use Rattle.cqlp_build.proofs.held.FrameEvents.rows.Given as goal
 
 -- the cells that are there are those of the first rows
 abbrev pub invariant-loop-row : goal.invariant-loop-row

@@ -1,0 +1,125 @@
+// Written by dist/erase from crates/cqlp_build/src/plain_cells.rt.
+//! Plain cells of pages: scalars, nulls and empty values, each of which is one event.
+
+use crate::kit_std::prelude::{Vec};
+use crate::cqlp_build::item::Item;
+use crate::cqlp_build_cells::Step;
+use crate::cqlp_kind::Kind;
+use crate::cqlp_message::{Metadata, Spec};
+use crate::cqlp_type::TypeTree;
+use crate::cqlp_value::Value;
+use crate::kit_std::collections::VecDeque;
+use core::mem;
+
+/// Whether the cell of this row and column is the next of a run of these cells, of which so many were taken, and after which these events came.
+#[inline(always)]
+pub(crate) fn is_next(
+    row: u32,
+    column: u32,
+    last: u32,
+    cells: &Vec<Value>,
+    taken: usize,
+    tail: &VecDeque<Item>,
+) -> bool {
+    taken == 0 && tail.is_empty() && is_place(row, column, last, cells.len())
+}
+
+/// Whether a row and a column are the place of the cell of this number, where the cells lie row by row and the last column of each has this
+/// number.
+#[inline(always)]
+fn is_place(row: u32, column: u32, last: u32, at: usize) -> bool {
+    column <= last && u64::from(row) * (u64::from(last) + 1) + u64::from(column) == at as u64
+}
+
+/// Whether these cells, of which so many were taken, are a cell of each column of each of these rows, and the columns are of these kinds.
+pub(crate) fn is_page(
+    rows: u32,
+    meta: &Metadata,
+    last: u32,
+    cells: &Vec<Value>,
+    taken: usize,
+    kinds: &Vec<Kind>,
+) -> bool {
+    taken == 0
+        && u64::from(last) + 1 == u64::from(meta.columns)
+        && u64::from(rows) * u64::from(meta.columns) == cells.len() as u64
+        && are_kinds(kinds, meta)
+}
+
+/// Whether the columns are of these kinds.
+fn are_kinds(kinds: &Vec<Kind>, meta: &Metadata) -> bool {
+    match &meta.specs {
+        Some(specs) => specs.len() == meta.columns as usize && are_kinds_of(kinds, specs),
+        None => kinds.is_empty(),
+    }
+}
+
+/// Whether the columns that are described are of these kinds.
+fn are_kinds_of(kinds: &Vec<Kind>, specs: &[Spec]) -> bool {
+    for (column, spec) in specs.iter().enumerate() {
+        if !is_type(&spec.tree, kind_in(kinds, column)) {
+            return false;
+        }
+    }
+    true
+}
+
+/// Whether a type is of this kind, and has no others in it.
+fn is_type(tree: &TypeTree, kind: Kind) -> bool {
+    match tree {
+        TypeTree::Plain(of) => *of == kind,
+        _ => false,
+    }
+}
+
+/// The kind of a column, which is raw where none is known.
+#[inline(always)]
+fn kind_in(kinds: &Vec<Kind>, column: usize) -> Kind {
+    match kinds.get(column) {
+        Some(kind) => *kind,
+        None => Kind::Raw,
+    }
+}
+
+/// The same.
+#[inline(always)]
+pub(crate) fn kind_at(kinds: &Vec<Kind>, column: u32) -> Kind {
+    kind_in(kinds, column as usize)
+}
+
+/// Whether a value is a plain one of this kind.
+#[inline(always)]
+pub(crate) fn is_of_kind(value: &Value, kind: Kind) -> bool {
+    match value {
+        Value::Leaf(atom) => atom.kind() == kind && atom.is_allowed(),
+        Value::Null => true,
+        Value::Empty => true,
+        _ => false,
+    }
+}
+
+/// Takes the cell of this number, as the event that it is.
+pub(crate) fn take_cell(cells: &mut Vec<Value>, at: usize, last: u32) -> Item {
+    let value = mem::replace(&mut cells[at], Value::Null);
+    let columns = u64::from(last) + 1;
+    Item::Cell {
+        row: (at as u64 / columns % (1 << 32)) as u32,
+        column: (at as u64 % columns) as u32,
+        level: 0,
+        step: step_of(value),
+    }
+}
+
+/// The event that a plain cell is.
+pub(crate) fn step_of(value: Value) -> Step {
+    match value {
+        Value::Leaf(atom) => Step::Leaf(atom),
+        Value::Null => Step::Null,
+        Value::Empty => Step::Empty,
+        Value::List(_) => Step::Empty,
+        Value::Map(_) => Step::Empty,
+        Value::Set(_) => Step::Empty,
+        Value::Tuple(_) => Step::Empty,
+        Value::Udt(_) => Step::Empty,
+    }
+}
