@@ -3,7 +3,7 @@
 #![forbid(unsafe_code)]
 
 use crate::common::{Numbers, count, limits, mutated, streams};
-use cqlp::frame::{BuildError, BuildLimits, BuiltFrame, Composer, Frame, FrameBuilder, encode};
+use cqlp::frame::{Atom, BuildError, BuildLimits, BuiltFrame, Composer, Frame, FrameBuilder, Message, encode};
 use cqlp::{Decoder, Event, Field, Header, Kind, Limits, OfStd, Opcode, Scalar, Step};
 
 const ALL: BuildLimits = BuildLimits { fields: 1 << 24, depth: 64, bytes: 1 << 28 };
@@ -166,4 +166,84 @@ fn frames_given_up_and_closed() {
     assert!(builder.is_between());
     assert_eq!(builder.take(&header(Opcode::Options, false, 9)), Ok(None));
     assert_eq!(encoded(&builder.close().unwrap()), [4, 0, 0, 0, 5, 0, 0, 0, 0]);
+}
+
+/// Of the events of a page of three rows of an int and a varchar, of which the cells are these: its cells, or which event does not fit.
+fn page_of(cells: &[Event<'_>]) -> Result<Vec<String>, usize> {
+    let count = |field, count| Event::Count { field, count };
+    let text = |field| Event::Text { field, text: "x" };
+    let mut events = vec![
+        header(Opcode::Result, true, 0),
+        Event::Int { field: Field::ResultKind, value: 2 },
+        Event::Int { field: Field::MetaFlags, value: 1 },
+        count(Field::Columns, 2),
+        text(Field::Keyspace),
+        text(Field::Table),
+    ];
+    for kind in [Kind::Int, Kind::Varchar] {
+        events.extend([text(Field::ColumnName), Event::TypeNode(kind)]);
+    }
+    events.push(count(Field::Rows, 3));
+    let before = events.len();
+    events.extend_from_slice(cells);
+    let [mut closing, mut naming] = [(); 2].map(|()| FrameBuilder::new(ALL));
+    for event in &events {
+        assert_eq!((closing.take(event), naming.take(event)), (Ok(None), Ok(None)));
+    }
+    let misfit = naming.misfit().unwrap();
+    match closing.close() {
+        Ok(Frame { message: Message::Rows(page), .. }) => {
+            assert_eq!(misfit, events.len());
+            Ok(page.cells.iter().map(|cell| format!("{cell:?}")).collect())
+        }
+        Ok(frame) => panic!("{frame:?}"),
+        Err(why) => {
+            assert_eq!(why, BuildError::NoFrame);
+            Err(misfit - before)
+        }
+    }
+}
+
+/// The cell of each row and column of such a page.
+fn page_cells() -> Vec<Event<'static>> {
+    let cell = |row, column, scalar| Event::Leaf { row, column, level: 0, scalar };
+    (0..3).flat_map(|row| [cell(row, 0, Scalar::Int(-7)), cell(row, 1, Scalar::Varchar("é"))]).collect()
+}
+
+/// Each cell of a page may be null or empty. Where one is of another type, of another place, a text of no bytes or a value with items, the page is none,
+/// and that event is named; so is the first that comes too late, and the end of those that come too early.
+#[test]
+fn cells_of_a_page() {
+    let shown = |scalar| format!("{:?}", cqlp::frame::Value::Leaf(scalar));
+    let [int, text] = [shown(Atom::Int(-7)), shown(Atom::Varchar("é".to_owned()))];
+    let all: Vec<String> = (0..3).flat_map(|_| [int.clone(), text.clone()]).collect();
+    assert_eq!(page_of(&page_cells()), Ok(all.clone()));
+    for at in 0..6 {
+        let (row, column) = (at as u32 / 2, at as u32 % 2);
+        let with = |event| {
+            let mut cells = page_cells();
+            cells[at] = event;
+            page_of(&cells)
+        };
+        for (event, word) in [(Event::Null { row, column, level: 0 }, "Null"), (Event::Empty { row, column, level: 0 }, "Empty")] {
+            let mut others = all.clone();
+            others[at] = word.to_owned();
+            assert_eq!(with(event), Ok(others));
+        }
+        let leaf = |row, column, level, scalar| Event::Leaf { row, column, level, scalar };
+        for event in [
+            leaf(row, column, 0, Scalar::Bigint(-7)),
+            leaf(row, column, 0, Scalar::Varchar("")),
+            leaf(row + 1, column, 0, Scalar::Int(-7)),
+            leaf(row, column + 2, 0, Scalar::Int(-7)),
+            leaf(row, column, 1, Scalar::Int(-7)),
+            Event::Enter { row, column, level: 0, kind: Kind::List, items: 0 },
+            Event::Leave { level: 0, items: 0 },
+            TEXT,
+        ] {
+            assert_eq!(with(event), Err(at), "{event:?}");
+        }
+        assert_eq!(page_of(&page_cells()[..at]).unwrap_err(), at);
+        assert_eq!(page_of(&[&page_cells()[..], &page_cells()[at..=at]].concat()), Err(6));
+    }
 }
