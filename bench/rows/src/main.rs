@@ -6,6 +6,7 @@
 mod hand;
 mod wide;
 
+use cqlp::frame::{Atom, BuildLimits, FrameBuilder, Message, Value};
 use cqlp::rows::{FromCell, LentCell, Mismatch, page_rows};
 use cqlp::{Decoder, Event, Fed, Limits, Sink, SinkFault, Step};
 use std::collections::BTreeMap;
@@ -122,6 +123,7 @@ fn tasks<'a>(name: &str, page: &'a [u8]) -> Vec<(&'static str, Run<'a>, Run<'a>)
     let mut tasks: Vec<(_, Run, Run)> = match name {
         "rows" => vec![
             ("owned structs", Box::new(|| owned_by_hand(page)), Box::new(|| owned(page))),
+            ("a frame's value", Box::new(|| owned_by_hand(page)), Box::new(|| built(page))),
             ("lent rows, summed", Box::new(|| lent_by_hand(page)), Box::new(|| lent(page))),
         ],
         "collections" => vec![
@@ -147,6 +149,34 @@ fn owned(page: &[u8]) -> u64 {
     let rows = page_rows(page).expect("a page").collect::<Result<Vec<Owned>, _>>().expect("rows");
     black_box(&rows);
     rows.last().map_or(0, |row| sum_of(row.column0, row.column1, &row.column2, row.column3))
+}
+
+/// Builds the value of a frame, a page of rows, of its events.
+struct Building {
+    builder: FrameBuilder,
+    sum: u64,
+}
+
+impl Sink for Building {
+    fn take(&mut self, _at: u64, event: &Event<'_>) -> Result<(), SinkFault> {
+        if let Some(built) = self.builder.take(event).expect("a frame that is built") {
+            let Message::Rows(rows) = &black_box(&built).frame.message else { panic!("no page") };
+            let [.., Value::Leaf(Atom::Int(id)), Value::Leaf(Atom::Bigint(total)), Value::Leaf(Atom::Varchar(name)), Value::Leaf(Atom::Boolean(paid))] =
+                &rows.cells[..]
+            else {
+                panic!("no rows")
+            };
+            self.sum = sum_of(*id, *total, name, *paid);
+        }
+        Ok(())
+    }
+}
+
+fn built(page: &[u8]) -> u64 {
+    let limits = BuildLimits { fields: u32::MAX, depth: 1, bytes: u32::MAX };
+    let mut building = Building { builder: FrameBuilder::new(limits), sum: 0 };
+    assert_eq!(decoder().feed(page, &mut building), Fed::More);
+    building.sum
 }
 
 fn lent_by_hand(page: &[u8]) -> u64 {
