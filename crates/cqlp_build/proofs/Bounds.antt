@@ -14,7 +14,7 @@ use Rattle.cqlp_build.specs.declared.error.BuildError.{BuildError}
 use Rattle.cqlp_build.specs.declared.error.BuildError.TheVariants as error
 use Rattle.cqlp_build.specs.Building.{BuilderState, CanBeBuilt, HaveNoParts, TakesEvent, empty, is_due, is_end, is_inner, is_unbuilt}
 use Rattle.cqlp_build.specs.Laws.{Answer, AreTaken, NoneRefused, OnlyBoundsRefuse, is_of_bounds, without_offsets}
-use Rattle.cqlp_build.proofs.FrameViews.{AreInner, body_inner, body_of, frame_said, none_both}
+use Rattle.cqlp_build.proofs.FrameViews.{AreInner, body_inner, body_of, frame_said}
 use Rattle.cqlp_build.proofs.Several.{both}
 use Rattle.cqlp_build.proofs.Streams.{end_step, header_step, inner_step}
 use Rattle.cqlp_build.proofs.Taking.{due}

@@ -1,12 +1,12 @@
 -- What is known where a frame ends whatever its header says of its length.
-use Rattle.std.proofs.Common.{◌≡◌, ℕ, ◌+◌, ◌++◌, ◌⊎◌, List, [], ◌∷◌, true, false, Bool, Option, Some, None, refl, sym, ap, ◌∙◌, subst, Ok, Err, arith, inl, inr}
-use Rattle.std.specs.Prelude.{IsTrue, ◌&&◌, is_ok, Result}
+use Rattle.std.proofs.Common.{◌≡◌, ℕ, ◌+◌, ◌++◌, ◌⊎◌, [], ◌∷◌, false, Bool, Some, None, sym, ◌∙◌, subst, Ok, Err, arith, inl, inr}
+use Rattle.std.specs.Prelude.{IsTrue}
 use Rattle.std.proofs.Common.{◌↔◌}
 use Rattle.cqlp_note.specs.declared.header.Header.{Header}
 use Rattle.cqlp_note.specs.Heading.{answers, same}
-use Rattle.cqlp_grammar.specs.Events.{Event, Frame, End}
+use Rattle.cqlp_grammar.specs.Events.{Frame, End}
 use Rattle.cqlp_message.specs.FrameValues.{FrameValue}
-use Rattle.cqlp_message.specs.Frames.{frame_parts, frame_size, header_of, if_none, measure_of, unfit_of}
+use Rattle.cqlp_message.specs.Frames.{frame_parts, frame_size, header_of, measure_of, unfit_of}
 use Rattle.cqlp_message.specs.Owned.{frame_of}
 use Rattle.cqlp_message.specs.Parts.{parts_size}
 use Rattle.cqlp_message.specs.declared.frame.Frame.{Frame as OwnedFrame}

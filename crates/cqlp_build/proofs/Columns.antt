@@ -1,5 +1,5 @@
 -- The types of a page's columns.
-use Rattle.std.proofs.Common.{◌≡◌, ℕ, ◌*◌, zero, suc, ◌<◌, List, [], ◌∷◌, map, length, Bool, true, Option, None, Some, refl, sym, ap, ◌∙◌, subst, arith, inl}
+use Rattle.std.proofs.Common.{◌≡◌, ℕ, zero, suc, ◌<◌, List, [], ◌∷◌, map, length, Bool, true, Option, None, Some, refl, sym, ap, ◌∙◌, subst, arith, inl}
 use Rattle.std.specs.Prelude.{◌&&◌, ◌==◌, get_or, not, option_map}
 use Rattle.std.proofs.lemmas.Bool.{eqb-true}
 use Rattle.std.proofs.lemmas.List.{length-map}
@@ -18,7 +18,7 @@ use Rattle.cqlp_kind.specs.declared.kind.Kind.TheVariants as kind
 use Rattle.cqlp_kind.specs.Types.{NoMore, Type_and, how_many}
 use Rattle.cqlp_grammar.specs.Productions.{raw_types}
 use Rattle.cqlp_message.specs.Bodies.{cell_types, column_types, types_described}
-use Rattle.cqlp_message.specs.FrameValues.{Metadata, Spec, TableName}
+use Rattle.cqlp_message.specs.FrameValues.{Metadata, Spec}
 use Rattle.cqlp_build.specs.Productions.{AreReadable, column_type}
 
 pub raw_column : (n i : ℕ) → i < n → column_type i (raw_types n) ≡ Type_and kind.Raw NoMore NoMore

@@ -7,7 +7,7 @@ use Rattle.cqlp_note.specs.declared.field.Field.TheVariants as field
 use Rattle.cqlp_note.specs.Field as note
 use Rattle.cqlp_note.specs.Heading.{has}
 use Rattle.cqlp_type.specs.Trees.{Trees, is_tree}
-use Rattle.cqlp_grammar.specs.Events.{Event, Holds}
+use Rattle.cqlp_grammar.specs.Events.{Holds}
 use Rattle.cqlp_message.specs.Agreement.{bits, columns_agree, metadata_agrees, prepared_agrees, spec_agrees, specs_agree, there_if}
 use Rattle.cqlp_message.specs.Bodies as body
 use Rattle.cqlp_message.specs.FrameValues.{Octets, TableName, Spec, Metadata, PreparedStatement}

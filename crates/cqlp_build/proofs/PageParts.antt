@@ -8,7 +8,7 @@ use Rattle.cqlp_grammar.specs.Events.{Event, Holds}
 use Rattle.cqlp_kind.specs.Types.{how_many}
 use Rattle.cqlp_value.specs.Values.{Values}
 use Rattle.cqlp_message.specs.Agreement.{metadata_agrees}
-use Rattle.cqlp_message.specs.Bodies.{cell_types, count, metadata_parts, page_parts, rows_parts}
+use Rattle.cqlp_message.specs.Bodies.{cell_types, count, metadata_parts, page_parts}
 use Rattle.cqlp_message.specs.FrameValues.{Metadata, Page}
 use Rattle.cqlp_message.specs.Parts.{cell_fits}
 use Rattle.cqlp_message.proofs.PageWalks.{rows_cut}

@@ -1,5 +1,5 @@
 -- Results that are prepared statements, as the values that are made of their kind and their parts.
-use Rattle.std.proofs.Common.{◌≡◌, ℕ, ℤ, pos, ◌++◌, ◌⊎◌, List, [], ◌∷◌, true, false, refl, sym, ap, ◌∙◌, subst, inl, inr}
+use Rattle.std.proofs.Common.{◌≡◌, ℤ, pos, ◌++◌, ◌⊎◌, List, [], ◌∷◌, true, false, refl, sym, ap, ◌∙◌, inl, inr}
 use Rattle.cqlp_note.specs.declared.field.Field.TheVariants as field
 use Rattle.cqlp_note.specs.declared.opcode.Opcode.TheVariants as opcode
 use Rattle.cqlp_note.specs.Field as note

@@ -1,5 +1,5 @@
 -- The cells of a row, one after the other, and those of rows.
-use Rattle.std.proofs.Common.{◌≡◌, ℕ, zero, suc, ◌+◌, ◌-◌, ◌*◌, ◌<◌, ◌≤◌, ◌++◌, List, [], ◌∷◌, true, length, drop, take, Option, Some, None, refl, sym, ap, ◌∙◌, subst, append-nil, append_assoc, arith, inl}
+use Rattle.std.proofs.Common.{◌≡◌, ℕ, zero, suc, ◌+◌, ◌-◌, ◌*◌, ◌<◌, ◌≤◌, ◌++◌, List, [], ◌∷◌, true, length, drop, take, Some, refl, sym, ap, ◌∙◌, subst, append-nil, append_assoc, arith, inl}
 use Rattle.std.specs.List.{list_all}
 use Rattle.std.proofs.lemmas.List.{drop_at, length-append, length-drop, take-append-drop}
 use Rattle.std.proofs.lemmas.List.Folds.{list_all-append}
@@ -8,10 +8,10 @@ use Rattle.cqlp_kind.specs.declared.kind.Kind.{Kind}
 use Rattle.cqlp_kind.specs.Types.{Types, NoMore, Type_and, how_many}
 use Rattle.cqlp_value.specs.Values.{Values, value_fits}
 use Rattle.cqlp_message.specs.Bodies.{row_parts, rows_parts}
-use Rattle.cqlp_message.specs.Parts.{Part, Cell_is, cell_fits}
+use Rattle.cqlp_message.specs.Parts.{Cell_is, cell_fits}
 use Rattle.cqlp_build.specs.declared.held.FrameEvents.{FrameEvents}
 use Rattle.cqlp_build.specs.declared.held.Fault.{Fault}
-use Rattle.cqlp_build.specs.FrameEvents.{Builds, IsSound, left}
+use Rattle.cqlp_build.specs.FrameEvents.{Builds, IsSound}
 use Rattle.cqlp_build.specs.Productions.{BuildsCell, BuildsRow, column_type}
 use Rattle.cqlp_build.specs.Emitted.{emitted}
 use Rattle.cqlp_build.proofs.Several.{both, join}

@@ -1,6 +1,7 @@
 //! The events of a frame, as they are held: those of the first plain cells of a page as their values.
 
-ghost use Rattle.std.specs.Prelude.{◌≡◌, ◌==◌, ◌+◌, ◌^◌, ◌-◌, ◌++◌, ◌∷◌, [], MatchOption, OnErr, OnOk, is_ok, if◌then◌else◌, length, map, min, option_map, option_to_list};
+ghost use Rattle.std.specs.Prelude.{◌≡◌, ◌==◌, ◌+◌, ◌^◌, ◌-◌, ◌++◌, ◌∷◌, if◌then◌else◌};
+ghost use Rattle.std.specs.Prelude.{[], MatchOption, OnErr, OnOk, is_ok, length, map, min, option_map, option_to_list};
 ghost use Rattle.cqlp_grammar.specs.Events.{event_of};
 ghost use Rattle.cqlp_message.specs.Owned.{metadata_of};
 ghost use Rattle.cqlp_build.specs.FrameEvents.{IsHeld, item_event};
@@ -24,8 +25,8 @@ use std::mem;
 
 /// The events after a header, in their order: those before the cells of a page, a run of its cells, and those after the run.
 ///
-/// The run are the first cells of the page, row by row, as long as each is a scalar, null or empty: of each it holds the value. Of any other
-/// event it holds an [`Item`].
+/// The run are the first cells of the page, row by row, while each is null, empty or a scalar of its column's kind: of each it holds the
+/// value. Of any other event it holds an [`Item`].
 #[derive(Drop)]
 pub(crate) struct HeldEvents {
     head: VecDeque<Item>,

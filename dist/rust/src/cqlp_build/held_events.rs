@@ -17,8 +17,8 @@ use core::mem;
 
 /// The events after a header, in their order: those before the cells of a page, a run of its cells, and those after the run.
 ///
-/// The run are the first cells of the page, row by row, as long as each is a scalar, null or empty: of each it holds the value. Of any other
-/// event it holds an [`Item`].
+/// The run are the first cells of the page, row by row, while each is null, empty or a scalar of its column's kind: of each it holds the
+/// value. Of any other event it holds an [`Item`].
 pub(crate) struct HeldEvents {
     head: VecDeque<Item>,
     cells: Vec<Value>,

@@ -1,4 +1,4 @@
-use Rattle.std.proofs.Common.{◌≡◌, arith, length, map, sym, ap, ◌∙◌, vec_len}
+use Rattle.std.proofs.Common.{◌≡◌, arith, map, sym, ap, ◌∙◌, vec_len}
 use Rattle.std.specs.Prelude.{option_map}
 use Rattle.std.proofs.lemmas.Bool.{eqb-true}
 use Rattle.std.proofs.lemmas.List.{nil_from_length}

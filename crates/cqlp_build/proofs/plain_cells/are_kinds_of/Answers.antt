@@ -1,4 +1,4 @@
-use Rattle.std.proofs.Common.{◌≡◌, ◌+◌, suc, length, arith, ap, ◌∙◌}
+use Rattle.std.proofs.Common.{◌≡◌, suc, length, arith, ap, ◌∙◌}
 use Rattle.cqlp_type.specs.declared.tree.TypeTree.{Plain}
 use Rattle.cqlp_build.specs.Plain.{kind_types}
 use Rattle.cqlp_build.proofs.Plain.{all_kinds, more_kinds}

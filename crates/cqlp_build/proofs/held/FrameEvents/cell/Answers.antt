@@ -1,4 +1,4 @@
-use Rattle.std.proofs.Common.{◌≡◌, refl, ap, ◌∙◌}
+use Rattle.std.proofs.Common.{refl, ap, ◌∙◌}
 use Rattle.cqlp_type.specs.Trees.{kind_in, types_in}
 use Rattle.cqlp_type.specs.TypeTrees.{head_of, inner_of}
 use Rattle.cqlp_value.specs.Values.{NoValue, Null_and}

@@ -1,4 +1,4 @@
-use Rattle.std.proofs.Common.{◌≡◌, ◌<◌, ◌^◌, List, map, sym, ◌∙◌, subst, arith}
+use Rattle.std.proofs.Common.{◌<◌, ◌^◌, List, map, sym, ◌∙◌, subst, arith}
 use Rattle.cqlp_value.specs.Owned.{value_of}
 use Rattle.cqlp_message.specs.Owned.{metadata_of}
 use Rattle.cqlp_build.specs.declared.item.Item.{Item}

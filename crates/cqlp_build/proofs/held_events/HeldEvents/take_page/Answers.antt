@@ -1,6 +1,5 @@
-use Rattle.std.proofs.Common.{◌≡◌, ap, arith, length, rules, subst, sym, ◌∙◌}
+use Rattle.std.proofs.Common.{◌≡◌, ap, length, rules, subst, sym, ◌∙◌}
 use Rattle.std.proofs.lemmas.List.{nil_from_length}
-use Rattle.cqlp_value.specs.declared.value.Value.{Value}
 use Rattle.cqlp_message.specs.Owned.{metadata_of}
 use Rattle.cqlp_build.specs.WholePage.{IsWhole}
 use Rattle.cqlp_build.proofs.Plain.{emptied, whole_items}
