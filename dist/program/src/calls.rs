@@ -119,7 +119,7 @@ fn rows_without_memory() {
     let file = prepared_elsewhere();
     let written = |first, last| {
         let (mut input, out, err) = (OfStd::new(&file[..]), OfStd::new(Vec::with_capacity(1_000)), OfStd::new(Vec::with_capacity(1_000)));
-        let write = || write_rows(Global, StreamsLimits::DEFAULT, &[9042], 1, &mut input, out, err);
+        let write = || write_rows(StreamsLimits::DEFAULT, &[9042], 1, &mut input, out, err);
         let (((status, out, err), requests), _, kept) = measured(|| refusing(first, last, write));
         let text = |output: OfStd<Vec<u8>>| String::from_utf8(output.into_inner()).unwrap();
         assert_eq!(kept, 0);

@@ -6,7 +6,6 @@ use crate::cqlp_text::TextWriter;
 use crate::digits::bytes_of;
 use crate::heap::refusing;
 use crate::json::{Scratch, Value};
-use crate::kit_std::alloc::Global;
 
 /// What comes before the first column in the front of a PREPARED response for a statement of the id 0001, with so many columns: one digit of the number.
 const METADATA: &str = "00000004 0002 0001 00000001 0000000";
@@ -100,8 +99,8 @@ fn changed_values() {
         let shown = format!("{execute:02x?} {prepared:02x?}: {line} {members}");
         assert!(line.chars().all(|letter| !letter.is_control()) && members.chars().all(|letter| !letter.is_control()), "{shown}");
         assert!(line.len().max(members.len()) <= 12 * execute.len() + 128, "{shown}");
-        let (object, mut scratch) = (format!("{{\"a\":0{members}}}"), Scratch::new(Global));
-        assert!(Value::from_slice(Global, object.as_bytes(), &mut scratch).is_ok(), "{shown}");
+        let (object, mut scratch) = (format!("{{\"a\":0{members}}}"), Scratch::new());
+        assert!(Value::from_slice(object.as_bytes(), &mut scratch).is_ok(), "{shown}");
         nested += usize::from(line.contains("[[") || line.contains("{") || line.contains("("));
     }
     assert!(nested * 10 > count && nested < count, "{nested} of {count} have items");
