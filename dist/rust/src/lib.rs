@@ -378,6 +378,7 @@ mod names;
 mod params;
 mod raw_cells;
 pub mod rows;
+mod shown;
 mod uuid;
 pub mod wire;
 
