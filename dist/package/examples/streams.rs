@@ -55,10 +55,10 @@ impl<F: FnMut(u64, Told<'_>) -> io::Result<()>> Directions<F> {
     /// Takes a segment: its acknowledgement first, which is of the other direction.
     fn take(&mut self, segment: &Segment<'_>) -> io::Result<()> {
         let head = segment.head;
-        if head.flags.ack
-            && let Some(other) = self.known.get_mut(&(head.destination, head.source))
-        {
-            other.pull(&mut self.tell, &[], |stream| Ok(stream.acknowledge(head.acknowledgement)))?;
+        if head.flags.ack {
+            if let Some(other) = self.known.get_mut(&(head.destination, head.source)) {
+                other.pull(&mut self.tell, &[], |stream| Ok(stream.acknowledge(head.acknowledgement)))?;
+            }
         }
         let control = Control {
             sequence: head.sequence,

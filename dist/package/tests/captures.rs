@@ -278,10 +278,10 @@ impl Report {
 
     fn segment(&mut self, segment: &Segment<'_>, time: Option<u64>) {
         let head = segment.head;
-        if head.flags.ack
-            && let Some(other) = self.directions.get_mut(&(head.destination, head.source))
-        {
-            other.acknowledge(head.acknowledgement, &mut self.said);
+        if head.flags.ack {
+            if let Some(other) = self.directions.get_mut(&(head.destination, head.source)) {
+                other.acknowledge(head.acknowledgement, &mut self.said);
+            }
         }
         // A changed header may say that four billion bytes are missing, and the table has an entry for each.
         let control = Control {
