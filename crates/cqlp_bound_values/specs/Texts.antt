@@ -3,7 +3,7 @@ use Rattle.std.specs.Prelude.{ℕ, zero, suc, ◌&&◌, Bool, true, false, List,
 use Rattle.cqlp_kind.specs.declared.kind.Kind.{Kind}
 use Rattle.cqlp_kind.specs.declared.kind.Kind.TheVariants as kind
 use Rattle.cqlp_kind.specs.Contents.{scalar_in}
-use Rattle.cqlp_kind.specs.Scalars.{ScalarValue, Raw, Varchar}
+use Rattle.cqlp_kind.specs.Scalars.{ScalarValue, Ascii, Raw, Varchar}
 use Rattle.cqlp_kind.specs.Types.{has_no_items}
 use Rattle.cqlp_note.specs.declared.refusal.Reason.{Reason}
 use Rattle.cqlp_text.specs.CellText.{boolean_text, cell_text}
@@ -47,19 +47,27 @@ abbrev pub shown_scalar : Kind → List ℕ → (is_whole : Bool) → ScalarValu
 shown_scalar k b true = whole_scalar k b
 shown_scalar k b false = front_scalar k b
 
--- ---- a scalar or raw bytes, as a cell of `rows`
+-- ---- a scalar or raw bytes, as a cell of `rows`, but a text as a terminal may show it
+
+abbrev pub quoted : List ℕ → List ℕ
+quoted text = joined (codes "\"" ∷ shown_text text ∷ codes "\"" ∷ [])
+
+abbrev pub line_scalar : ScalarValue → List ℕ
+line_scalar (Ascii t) = quoted t
+line_scalar (Varchar t) = quoted t
+line_scalar v = cell_text v
 
 abbrev pub more : (is_whole : Bool) → List ℕ
 more true = []
 more false = codes ".."
 
 abbrev pub content_text : Kind → List ℕ → (is_whole : Bool) → List ℕ
-content_text k b is_whole = joined (cell_text (shown_scalar k b is_whole) ∷ more is_whole ∷ [])
+content_text k b is_whole = joined (line_scalar (shown_scalar k b is_whole) ∷ more is_whole ∷ [])
 
 -- ---- a content with items, as a cell of `rows` and of `rows --json`
 
 abbrev pub scalar_as : Form → ScalarValue → List ℕ
-scalar_as form.Line v = cell_text v
+scalar_as form.Line v = line_scalar v
 scalar_as form.Json v = scalar_text v
 
 abbrev pub empty_text : Form → List ℕ

@@ -15,6 +15,7 @@ use crate::column_types::kind_at;
 use crate::field::{behind, is_end};
 use crate::form::Form;
 use crate::item::Item;
+use crate::line_scalar::put_line_scalar;
 use crate::nested::Items;
 use crate::scalars::shown_scalar;
 use cqlp_grammar::SinkFault;
@@ -137,7 +138,7 @@ fn put_scalar_as<P: Pen>(
     ensures { Writes writer.old (scalar_as form (value_of scalar.now)) result writer.new }
 {
     match form {
-        Form::Line => writer.put_cell(scalar),
+        Form::Line => put_line_scalar(writer, scalar),
         Form::Json => put_scalar(scalar, writer),
     }
 }

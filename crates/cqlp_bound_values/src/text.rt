@@ -14,6 +14,7 @@ use crate::column_types::{DEEPEST, kind_at};
 use crate::field::text_front;
 use crate::form::Form;
 use crate::item::Item;
+use crate::line_scalar::put_line_scalar;
 use crate::nested::is_nested;
 use crate::nested_text::put_typed;
 use crate::scalars::shown_scalar;
@@ -268,7 +269,7 @@ fn put_content<P: Pen>(
 ) -> Result<(), SinkFault>
     ensures { Writes writer.old (content_text kind bytes.now is_whole) result writer.new }
 {
-    writer.put_cell(&shown_scalar(kind, bytes, is_whole))?;
+    put_line_scalar(writer, &shown_scalar(kind, bytes, is_whole))?;
     writer.put_str(more(is_whole))
 }
 

@@ -6,6 +6,7 @@ mod column_types;
 mod field;
 mod form;
 mod item;
+mod line_scalar;
 mod nested;
 mod nested_text;
 mod scalars;

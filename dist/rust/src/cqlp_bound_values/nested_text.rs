@@ -5,6 +5,7 @@ use crate::cqlp_bound_values::column_types::kind_at;
 use crate::cqlp_bound_values::field::{behind, is_end};
 use crate::cqlp_bound_values::form::Form;
 use crate::cqlp_bound_values::item::Item;
+use crate::cqlp_bound_values::line_scalar::put_line_scalar;
 use crate::cqlp_bound_values::nested::Items;
 use crate::cqlp_bound_values::scalars::shown_scalar;
 use crate::cqlp_grammar::SinkFault;
@@ -110,7 +111,7 @@ fn put_scalar_as<P: Pen>(
     scalar: &Scalar<'_>,
 ) -> Result<(), SinkFault> {
     match form {
-        Form::Line => writer.put_cell(scalar),
+        Form::Line => put_line_scalar(writer, scalar),
         Form::Json => put_scalar(scalar, writer),
     }
 }

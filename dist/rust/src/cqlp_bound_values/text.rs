@@ -6,6 +6,7 @@ use crate::cqlp_bound_values::column_types::{DEEPEST, kind_at};
 use crate::cqlp_bound_values::field::text_front;
 use crate::cqlp_bound_values::form::Form;
 use crate::cqlp_bound_values::item::Item;
+use crate::cqlp_bound_values::line_scalar::put_line_scalar;
 use crate::cqlp_bound_values::nested::is_nested;
 use crate::cqlp_bound_values::nested_text::put_typed;
 use crate::cqlp_bound_values::scalars::shown_scalar;
@@ -222,7 +223,7 @@ fn put_content<P: Pen>(
     bytes: &[u8],
     is_whole: bool,
 ) -> Result<(), SinkFault> {
-    writer.put_cell(&shown_scalar(kind, bytes, is_whole))?;
+    put_line_scalar(writer, &shown_scalar(kind, bytes, is_whole))?;
     writer.put_str(more(is_whole))
 }
 
