@@ -105,6 +105,7 @@ SCALARS = [
     (b'\0\x0C', ID.bytes, *both(ID)),
     (VARCHAR, b'row 10', '"row 10"', 'row 10'),
     (VARCHAR, b'a"\\\x1B\n', '"a\\"\\\\\\x1b\\x0a"', 'a"\\\x1B\n'),
+    (VARCHAR, 'é\x80\u202E'.encode(), '"é\\xc2\\x80\\xe2\\x80\\xae"', 'é\x80\u202E'),
     (b'\0\x0E', b'\xFF\x7F', *both(-129)),
     (b'\0\x0F', ID.bytes, *both(ID)),
     (b'\0\x10', bytes([10, 0, 0, 1]), *both('10.0.0.1')),
@@ -160,8 +161,13 @@ def flag_in(content):
     return number_of(1)[1](content) != 0
 
 
+def is_hidden(letter):
+    """Whether a terminal may obey it, or shows a line in another order for it."""
+    return letter < ' ' or '\x7F' <= letter <= '\x9F' or letter in '\u061C\u200E\u200F' or '\u2028' <= letter <= '\u202E' or '\u2066' <= letter <= '\u2069'
+
+
 def line_of_text(text):
-    return '"' + ''.join('\\' + letter if letter in '"\\' else f'\\x{ord(letter):02x}' if letter < ' ' or letter == '\x7F' else letter for letter in text) + '"'
+    return '"' + ''.join('\\' + one if one in '"\\' else ''.join(f'\\x{byte:02x}' for byte in one.encode()) if is_hidden(one) else one for one in text) + '"'
 
 
 def bytes_made(numbers):
@@ -169,7 +175,7 @@ def bytes_made(numbers):
 
 
 OF_INT = Scalar(INT, number_of(4)[0], str, int, number_of(4)[1], lambda numbers: numbers.randrange(-9, 9))
-OF_TEXT = Scalar(VARCHAR, str.encode, line_of_text, str, bytes.decode, lambda numbers: ''.join(numbers.choices('aé"\\\n', k=numbers.randrange(1, 4))))
+OF_TEXT = Scalar(VARCHAR, str.encode, line_of_text, str, bytes.decode, lambda numbers: ''.join(numbers.choices('aé"\\\n\x85\u200F', k=numbers.randrange(1, 4))))
 OF_BIGINT = Scalar(BIGINT, number_of(8)[0], str, str, number_of(8)[1], lambda numbers: numbers.randrange(-1 << 63, 1 << 63))
 OF_BLOB = Scalar(BLOB, bytes, lambda content: '0x' + content.hex(), bytes.hex, bytes, bytes_made)
 OF_BOOLEAN = Scalar(b'\0\x04', lambda flag: bytes([flag]), lambda flag: str(flag).lower(), bool, flag_in, lambda numbers: numbers.random() < 0.5)
