@@ -68,7 +68,8 @@ impl<A: Allocator> Merging<A> {
     }
 
     fn add_name(&mut self, name: &str, entry: &Entry<'_>)
-        ensures { self.new.summary ≡ with_row (name_of name.now entry.now.is_whole_name) self.old.counts (most_of entry.now) self.old.before self.old.summary }
+        ensures { self.new.summary
+            ≡ with_row (name_of name.now entry.now.is_whole_name) self.old.counts (most_of entry.now) self.old.before self.old.summary }
     {
         let most = entry.most();
         self.least = self.least.min(most);

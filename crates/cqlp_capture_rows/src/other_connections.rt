@@ -124,7 +124,8 @@ fn hear_bytes<A: Allocator + Clone>(
     begins: bool,
     bytes: &[u8],
 ) -> Result<(), NoMemory>
-    ensures { OnOk result (place heads.new (learning frames.new others.new) ≡ bytes_heard number begins bytes.now heads.old (learning frames.old others.old)) }
+    ensures { OnOk result (place heads.new (learning frames.new others.new)
+        ≡ bytes_heard number begins bytes.now heads.old (learning frames.old others.old)) }
 {
     let mut unread = Unread::new(bytes, begins);
     while unread.steps > 0 {
