@@ -1,6 +1,7 @@
-//! Times `cqlp::rows` and `Decoder::feed` beside readers by hand, all in one run: `rows ROUNDS PAGE..`, where the pages are files of bench/pages.py
-//! whose names begin with `rows`, `collections` or `columns`. It prints a line of a table for each: the least time by hand and of ours, in
-//! milliseconds of the processor, and their ratio, which is over 1 where ours is faster. bench/ratios.py calls it.
+//! Times `cqlp::rows` and `Decoder::feed` beside readers by hand, all in one run: `rows [ROUNDS] PAGE..`, where the pages are files of bench/pages.py
+//! whose names begin with `rows`, `collections` or `columns`. The readers of a line run in turn, ROUNDS times (15), and as many times as often as the page
+//! is smaller than 50 MB. It prints a line of a table for each: the least time by hand and of ours, in milliseconds of the processor, and their ratio,
+//! which is over 1 where ours is faster. bench/rows.sh and bench/ratios.py call it.
 #![forbid(unsafe_code)]
 
 mod hand;
@@ -12,6 +13,7 @@ use cqlp::{Decoder, Event, Fed, Limits, Sink, SinkFault, Step};
 use std::collections::BTreeMap;
 use std::error::Error;
 use std::hint::black_box;
+use std::time::{Duration, Instant};
 use wide::Wide;
 
 type Run<'a> = Box<dyn Fn() -> u64 + 'a>;
@@ -242,39 +244,42 @@ fn columns(page: &[u8]) -> u64 {
     sum
 }
 
-/// The milliseconds of the processor that this thread has had.
-fn spent() -> f64 {
+/// The time of the processor that this thread has had, to the nanosecond; where the system does not say it, the time by a clock.
+fn spent(begun: Instant) -> Duration {
+    // The system counts by ticks, but where a thread gives up the processor.
+    std::thread::yield_now();
     let said = std::fs::read_to_string("/proc/thread-self/schedstat").unwrap_or_default();
-    said.split(' ').next().and_then(|word| word.parse::<f64>().ok()).unwrap_or_default() / 1e6
+    let nanoseconds = said.split(' ').next().and_then(|word| word.parse().ok());
+    nanoseconds.map_or_else(|| begun.elapsed(), Duration::from_nanos)
 }
 
-/// The milliseconds that a run takes, of so many.
-fn time(run: &Run<'_>, repeats: usize) -> f64 {
-    let start = spent();
-    for _ in 0..repeats {
-        black_box(run());
-    }
-    (spent() - start) / repeats as f64
+/// The milliseconds that a run takes.
+fn time(run: &Run<'_>) -> f64 {
+    let begun = Instant::now();
+    let before = spent(begun);
+    black_box(run());
+    (spent(begun) - before).as_secs_f64() * 1e3
+}
+
+/// The least of so many times by hand, and of ours, which are taken in turn.
+fn least(rounds: usize, hand: &Run<'_>, ours: &Run<'_>) -> (f64, f64) {
+    assert_eq!(ours(), hand());
+    (0..rounds).fold((f64::MAX, f64::MAX), |least, _| (least.0.min(time(hand)), least.1.min(time(ours))))
 }
 
 fn main() -> Result<(), Box<dyn Error>> {
     let words: Vec<String> = std::env::args().skip(1).collect();
-    let (rounds, paths) = words.split_first().ok_or("rows ROUNDS PAGE..")?;
+    let (rounds, paths) = match words.split_first().map(|(first, rest)| (first.parse(), rest)) {
+        Some((Ok(rounds), rest)) => (rounds, rest),
+        _ => (15, &words[..]),
+    };
     for path in paths {
         let page = std::fs::read(path)?;
         let name = path.rsplit('/').next().unwrap_or(path);
-        let tasks = tasks(name.split('.').next().unwrap_or(name), &page);
-        // The system counts by ticks, so a short page is read some times for each time that is taken.
-        let repeats = (100_000_000 / page.len()).clamp(2, 100);
-        let mut least = vec![(f64::MAX, f64::MAX); tasks.len()];
-        for _ in 0..rounds.parse()? {
-            for ((_, hand, ours), times) in tasks.iter().zip(&mut least) {
-                assert_eq!(ours(), hand());
-                *times = (times.0.min(time(hand, repeats)), times.1.min(time(ours, repeats)));
-            }
-        }
-        for ((what, ..), (hand, ours)) in tasks.iter().zip(least) {
-            println!("| {name}, {what} | {hand:.1} ms | {ours:.1} ms | {:.2} |", hand / ours.max(1e-3));
+        let times = rounds * (50_000_000 / page.len().max(1)).max(1);
+        for (what, hand, ours) in tasks(name.split('.').next().unwrap_or(name), &page) {
+            let (hand, ours) = least(times, &hand, &ours);
+            println!("| {name}, {what} | {hand:.2} ms | {ours:.2} ms | {:.2} |", hand / ours);
         }
     }
     Ok(())
