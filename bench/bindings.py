@@ -2,7 +2,7 @@
 """Times the Python package over a page of bench/pages.py, for bench/bindings.sh: bindings.py FILE
 
 Beside it run a plain loop in Python, which walks the cells of the page by their lengths and decides nothing of them, and the reader in C of the
-released driver, where it is there. Times are those of the processor, the least of nine runs.
+released driver, where it is there. Times are those of the processor, the least of nine runs in turn.
 """
 import gc
 import struct
@@ -32,23 +32,19 @@ def options(type):
     return 2 + sum(map(options, type.inner))
 
 
-def least(read, data):
-    """What it reads, and the least seconds of the processor of nine runs."""
-    seconds = []
+def least(readers, data):
+    """Of each reader what it reads, and the least seconds of the processor of nine runs. The readers run in turn, so that what else the machine does at a
+    time weighs on all."""
+    found, seconds = {}, {what: [] for what in readers}
     for _ in range(9):
-        gc.collect()
-        began = time.process_time()
-        found = read(data)
-        seconds.append(time.process_time() - began)
-        if not isinstance(found, int):
-            found = len(found)
-    return found, min(seconds)
-
-
-def timed(what, read, data):
-    rows, seconds = least(read, data)
-    print("  python, %s: %.1f ms, %.0f rows/s, %.1f MB/s" % (what, seconds * 1e3, rows / seconds, len(data) / 1e6 / seconds), flush=True)
-    return seconds
+        for what, read in readers.items():
+            gc.collect()
+            began = time.process_time()
+            found[what] = read(data)
+            seconds[what].append(time.process_time() - began)
+            if not isinstance(found[what], int):
+                found[what] = len(found[what])
+    return {what: (found[what], min(seconds[what])) for what in readers}
 
 
 def driver(data):
@@ -58,16 +54,14 @@ def driver(data):
     return ProtocolHandler.decode_message(4, {}, 0, 0, 8, data[9:], None, None).parsed_rows
 
 
-def beside(times, data):
-    """Times the driver's reader, and says how many times as fast the others are. All hold what they read, but `rows` and `arrays` as they are iterated."""
+def driver_here():
+    """The driver, where it and its reader in C are on this machine."""
     try:
         import cassandra
         from cassandra import row_parser
     except ImportError:
-        print("  python, the driver's compiled reader: it is not on this machine")
-        return
-    seconds = timed("the reader in C of cassandra-driver %s" % cassandra.__version__, driver, data)
-    print("  python, times as fast as the driver: " + ", ".join("%s %.2f" % (what, seconds / one) for what, one in times.items()))
+        return {}
+    return {"the reader in C of cassandra-driver %s" % cassandra.__version__: driver}
 
 
 READERS = {
@@ -83,14 +77,20 @@ READERS = {
 def main():
     with open(sys.argv[1], "rb") as file:
         data = file.read()
-    timed("a plain loop over the cells", plain, data)
-    times = {what: timed(what, read, data) for what, read in READERS.items()}
-    beside(times, data)
+    drivers = driver_here()
+    if not drivers:
+        print("  python, the driver's compiled reader: it is not on this machine")
+    found = least({"a plain loop over the cells": plain, **READERS, **drivers, "check": lambda data: cqlp.check(data).bytes}, data)
+    size, seconds = found.pop("check")
+    for what, (rows, time_of_one) in found.items():
+        print("  python, %s: %.1f ms, %.0f rows/s, %.1f MB/s" % (what, time_of_one * 1e3, rows / time_of_one, len(data) / 1e6 / time_of_one))
+    # All hold what they read, but `rows` and `arrays` as they are iterated.
+    for name in drivers:
+        print("  python, times as fast as the driver: " + ", ".join("%s %.2f" % (what, found[name][1] / found[what][1]) for what in READERS))
+    print("  python, check: %.1f ms, %.0f MB/s" % (seconds * 1e3, size / 1e6 / seconds))
     began = time.process_time()
     events = sum(1 for _ in cqlp.events(data))
-    print("  python, events: %.0f events/s" % (events / (time.process_time() - began)))
-    size, seconds = least(lambda data: cqlp.check(data).bytes, data)
-    print("  python, check: %.1f ms, %.0f MB/s" % (seconds * 1e3, size / 1e6 / seconds))
+    print("  python, events: %.0f events/s" % (events / (time.process_time() - began)), flush=True)
 
 
 main()

@@ -43,7 +43,7 @@ _CODES: Dict[int, str] = {
 _FIXED: Dict[int, int] = {int(kind): array(code).itemsize for kind, code in _CODES.items()}
 _FIXED.update({int(Kind.BOOLEAN): 1, int(Kind.UUID): 16, int(Kind.TIMEUUID): 16})
 _FULL, _MORE, _REFUSED = int(Stop.FULL), int(Stop.MORE), int(Stop.REFUSED)
-_MANY = 512  # how many events of cells with items are read at once
+_MANY = 256  # how many events of cells with items one call of the library puts
 _LEAF, _PART, _END = int(Tag.LEAF), int(Tag.PART), int(Tag.END)
 
 
@@ -419,6 +419,7 @@ class _Reader:
         self.nested: Any = None
         self.types: List[Optional[Type]] = []
         self.many = (_native.Event * _MANY)()
+        self.taken = [0, 0]  # how many of these events were taken, and why no more
         # the same without the module in C: what makes its rows, of one event at a time, and those that wait for a batch
         self.cells: Any = None
         self.rows: List[Row] = []
@@ -457,7 +458,8 @@ class _Reader:
             for record, content in found:
                 self.metadata.add(event_of(record, content))
         elif self.nested:
-            code = _native.library.cqlp_next(decoder, place, min(length, self.end - self.offset), ctypes.addressof(self.many), _MANY, batch)
+            length = min(length, self.end - self.offset)
+            *self.taken, code = self.nested.read(_NEXT, self.places[0], place, length, ctypes.addressof(self.many), _MANY, self.places[2])
         elif self.page is None or self.cells:
             code = _native.library.cqlp_next(decoder, place, length, ctypes.addressof(event), 1, batch)
         else:
@@ -487,10 +489,9 @@ class _Reader:
             self.metadata.add(self.whole_event())
 
     def take_many(self) -> Iterator[ArrayBatch]:
-        """Takes events of cells, and the end of the frame after them."""
-        at, count = 0, self.batch.events
-        while at < count and self.nested:
-            at, state = self.nested.take(ctypes.addressof(self.many), at, count)
+        """Takes events of cells that a call left, and the end of the frame after them."""
+        (at, state), count = self.taken, self.batch.events
+        while self.nested:
             if state == 2:
                 raise CellTooLong(self.many[at - 1].row, self.many[at - 1].column)
             ended = not state and at < count
@@ -498,6 +499,9 @@ class _Reader:
                 yield from self.rest(ended)
             if ended:
                 self.page = self.nested = None
+            if ended or at == count:
+                return
+            at, state, _ = self.nested.take(ctypes.addressof(self.many), at, count)
 
     def whole_event(self) -> Event:
         content = ctypes.string_at(self.event.content, self.event.length) if self.event.length else b""

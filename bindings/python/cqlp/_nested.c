@@ -1,12 +1,14 @@
 /* Puts the events of cells together to arrays in the layout of Apache Arrow, as `_item_arrays.py` does of Python values, and makes no Python value for a
- * cell. It calls nothing of libcqlp. It is of the stable ABI, from Python 3.9 on, and bindings/build makes cqlp/_nested.abi3.so of it. Where that is not
- * there, _item_arrays.py does it alone. */
+ * cell. It is given where cqlp_next lies, and is linked with no library. It is of the stable ABI, from Python 3.9 on, and bindings/build makes
+ * cqlp/_nested.abi3.so of it. Where that is not there, _item_arrays.py does it alone. */
 #define Py_LIMITED_API 0x03090000
 #define PY_SSIZE_T_CLEAN
 #include <Python.h>
 #include <string.h>
 
 #include "cqlp.h"
+
+typedef uint32_t next_call(cqlp_decoder *decoder, const uint8_t *input, size_t length, cqlp_event *events, size_t room, cqlp_batch *batch);
 
 /* Bytes that grow. */
 typedef struct buffer {
@@ -19,7 +21,8 @@ typedef struct node {
   uint8_t kind;
   uint8_t size;                            /* how many bytes each value has, where all have the same; else 0 */
   size_t cells;                            /* how many values came */
-  buffer values, offsets, validity, empties;
+  buffer values, offsets;
+  buffer validity, empties;                /* bits for the values, and for none while all are valid, and no one is empty */
   Py_ssize_t count;                        /* how many arrays it has in it */
   struct node *inner;
 } node;
@@ -47,15 +50,19 @@ typedef struct nested {
 
 /* ---- bytes */
 
+/* Grows a buffer by half, to room for so many more bytes. */
+static int grow(buffer *to, size_t length) {
+  size_t room = to->length + length + to->length / 2 + 64;
+  uint8_t *grown = room > PY_SSIZE_T_MAX ? NULL : PyMem_Realloc(to->bytes, room);
+  if (grown == NULL) return PyErr_NoMemory(), 0;
+  to->bytes = grown;
+  to->room = room;
+  return 1;
+}
+
 /* Room for so many more bytes, which are counted; NULL with an exception. */
-static uint8_t *more(nested *self, buffer *to, size_t length) {
-  if (to->room - to->length < length) {
-    size_t room = to->length + length + to->length / 2 + 64;
-    uint8_t *grown = room > PY_SSIZE_T_MAX ? NULL : PyMem_Realloc(to->bytes, room);
-    if (grown == NULL) return PyErr_NoMemory(), NULL;
-    to->bytes = grown;
-    to->room = room;
-  }
+static inline uint8_t *more(nested *self, buffer *to, size_t length) {
+  if (to->room - to->length < length && !grow(to, length)) return NULL;
   uint8_t *found = to->bytes + to->length;
   to->length += length;
   self->memory_used += length;
@@ -79,12 +86,41 @@ static int put_bit(nested *self, buffer *to, size_t at, int bit) {
   return 1;
 }
 
+/* The same where bits are kept from the first on that is not common. Their memory was counted. */
+static inline int put_rare(buffer *to, size_t at, int bit, int common) {
+  if (to->length == 0 && bit == common) return 1;
+  size_t length = at / 8 + 1;
+  if (to->room < length && !grow(to, length - to->length)) return 0;
+  if (to->length == 0) {
+    memset(to->bytes, common ? 0xff : 0, length);
+    to->bytes[at / 8] &= (uint8_t)((1u << at % 8) - 1);
+  } else if (to->length < length) {
+    to->bytes[at / 8] = 0;
+  }
+  to->length = length;
+  to->bytes[at / 8] |= (uint8_t)((bit != 0) << at % 8);
+  return 1;
+}
+
 static int bit_at(const uint8_t *bits, size_t at) {
   return bits[at / 8] >> at % 8 & 1;
 }
 
-static void write_lowest_first(uint8_t *to, uint64_t number, size_t size) {
-  for (size_t at = 0; at < size; at++) to[at] = (uint8_t)(number >> 8 * at);
+/* Writes the bytes of a number, the lowest first. The compiler makes one write of each case. */
+static inline void write_lowest_first(uint8_t *to, uint64_t number, size_t size) {
+  switch (size) {
+  case 1:
+    to[0] = (uint8_t)number;
+    return;
+  case 2:
+    for (int at = 0; at < 2; at++) to[at] = (uint8_t)(number >> 8 * at);
+    return;
+  case 4:
+    for (int at = 0; at < 4; at++) to[at] = (uint8_t)(number >> 8 * at);
+    return;
+  default:
+    for (int at = 0; at < 8; at++) to[at] = (uint8_t)(number >> 8 * at);
+  }
 }
 
 /* ---- values */
@@ -106,15 +142,16 @@ static uint64_t end_of(const node *of) {
   return has_items(of->kind) ? of->inner[of->count - 1].cells : of->values.length;
 }
 
-/* Ends a value: where it ends, and whether it is there, and has bytes. */
-static int end_value(nested *self, node *of, int is_valid, int is_empty) {
+/* Ends a value: where it ends, and whether it is there, and has bytes. Two bits are counted for it, also where they are not kept. */
+static inline int end_value(nested *self, node *of, int is_valid, int is_empty) {
   if (of->size == 0 && of->kind != CQLP_KIND_BOOLEAN && !has_fields(of->kind)) {
     uint8_t *end = more(self, &of->offsets, 8);
     if (end == NULL) return 0;
     uint64_t offset = end_of(of);
     memcpy(end, &offset, 8);
   }
-  if (!put_bit(self, &of->validity, of->cells, is_valid) || !put_bit(self, &of->empties, of->cells, is_empty)) return 0;
+  if (of->cells % 8 == 0) self->memory_used += 2;
+  if (!put_rare(&of->validity, of->cells, is_valid, 1) || !put_rare(&of->empties, of->cells, is_empty, 0)) return 0;
   of->cells++;
   return 1;
 }
@@ -166,7 +203,7 @@ static int wrong(const char *text) {
 }
 
 /* The array that the next value goes to; NULL with an exception. The one after it is the next. */
-static node *next_node(nested *self) {
+static inline node *next_node(nested *self) {
   if (self->depth == 0) return &self->columns[self->column];
   level *around = &self->levels[self->depth - 1];
   if (around->next >= around->around->count) return wrong("more items than the type has"), NULL;
@@ -207,13 +244,19 @@ static int put_part(nested *self, const cqlp_event *event) {
   return 1;
 }
 
-static int put_event(nested *self, const cqlp_event *event) {
+/* Puts an event that is no scalar. */
+static int put_other(nested *self, const cqlp_event *event) {
   if (event->tag == CQLP_TAG_ENTER) return enter(self, event);
   if (event->tag == CQLP_TAG_LEAVE) return leave(self);
   if (event->tag == CQLP_TAG_PART) return put_part(self, event);
   node *of = next_node(self);
+  return of != NULL && put_nothing(self, of, event->tag == CQLP_TAG_EMPTY);
+}
+
+static inline int put_event(nested *self, const cqlp_event *event) {
+  if (event->tag != CQLP_TAG_LEAF) return put_other(self, event);
+  node *of = next_node(self);
   if (of == NULL) return 0;
-  if (event->tag != CQLP_TAG_LEAF) return put_nothing(self, of, event->tag == CQLP_TAG_EMPTY);
   if (of->kind != event->kind) return wrong("a value of another type");
   return put_scalar(self, of, event) && end_value(self, of, 1, 0);
 }
@@ -225,9 +268,31 @@ static int pass_event(nested *self, const cqlp_event *event) {
   return 1;
 }
 
+/* Why events are taken no further. */
+enum state { AT_NO_CELL, AT_BATCH_END, OUT_OF_MEMORY, FAILED };
+
+/* Puts those of so many events, from a place on, that are of cells. The place is that of the first that is none, or behind a row that ends the batch, or
+ * behind the event by which a row that is not whole takes more than the memory. */
+static enum state put_events(nested *self, const cqlp_event *events, Py_ssize_t *at, Py_ssize_t count) {
+  while (*at < count && CQLP_TAG_LEAF <= events[*at].tag && events[*at].tag <= CQLP_TAG_PART) {
+    const cqlp_event *event = &events[(*at)++];
+    if (!(self->wanted[self->column] ? put_event(self, event) : pass_event(self, event))) return FAILED;
+    if (self->memory_used > self->memory) return OUT_OF_MEMORY;
+    if (self->depth > 0 || (event->tag == CQLP_TAG_PART && event->mark != CQLP_MARK_LAST)) continue;
+    if (++self->column < self->width) continue;
+    self->column = 0;
+    if (++self->rows >= self->most || self->memory_used > self->memory / 4) return AT_BATCH_END;
+  }
+  return AT_NO_CELL;
+}
+
+static PyObject *answer(Py_ssize_t at, enum state state, uint32_t code) {
+  return state == FAILED ? NULL : Py_BuildValue("niI", at, (int)state, (unsigned)code);
+}
+
 PyDoc_STRVAR(take_doc, "take(address, at, count): puts those of so many events in memory, from this place on, that are of cells; the place of the first "
                        "that is none, or behind a row that ends the batch; 1 where it does, 2 where a row that is not whole takes more than the "
-                       "memory, and its last event is before this place, else 0.");
+                       "memory, and its last event is before this place, else 0; and 0.");
 
 static PyObject *nested_take(PyObject *object, PyObject *arguments) {
   nested *self = (nested *)object;
@@ -237,16 +302,43 @@ static PyObject *nested_take(PyObject *object, PyObject *arguments) {
   const cqlp_event *events = PyLong_AsVoidPtr(address);
   if (events == NULL && PyErr_Occurred()) return NULL;
   if (!self->is_begun) return wrong("it has no types"), NULL;
-  while (at < count && CQLP_TAG_LEAF <= events[at].tag && events[at].tag <= CQLP_TAG_PART) {
-    const cqlp_event *event = &events[at++];
-    if (!(self->wanted[self->column] ? put_event(self, event) : pass_event(self, event))) return NULL;
-    if (self->memory_used > self->memory) return Py_BuildValue("ni", at, 2);
-    if (self->depth > 0 || (event->tag == CQLP_TAG_PART && event->mark != CQLP_MARK_LAST)) continue;
-    if (++self->column < self->width) continue;
-    self->column = 0;
-    if (++self->rows >= self->most || self->memory_used > self->memory / 4) return Py_BuildValue("ni", at, 1);
+  enum state state = put_events(self, events, &at, count);
+  return answer(at, state, 0);
+}
+
+PyDoc_STRVAR(read_doc, "read(next, decoder, place, length, events, room, batch): reads events into a room for so many, and takes them as `take` does, until "
+                       "one is left, a batch ends, or a call does not fill the room. `batch` speaks of the last call, but its `used` of all. Answers what "
+                       "`take` answers of the events of the last call, and its code. `next` is where cqlp_next lies.");
+
+static PyObject *nested_read(PyObject *object, PyObject *arguments) {
+  nested *self = (nested *)object;
+  PyObject *words[5];
+  Py_ssize_t length, room, at = 0;
+  void *places[5];
+  if (!PyArg_ParseTuple(arguments, "OOOnOnO", &words[0], &words[1], &words[2], &length, &words[3], &room, &words[4])) return NULL;
+  for (int k = 0; k < 5; k++) {
+    places[k] = PyLong_AsVoidPtr(words[k]);
+    if (places[k] == NULL && (PyErr_Occurred() || k != 2)) return PyErr_Occurred() ? NULL : (wrong("nothing lies there"), NULL);
   }
-  return Py_BuildValue("ni", at, 0);
+  if (!self->is_begun) return wrong("it has no types"), NULL;
+  next_call *next;
+  memcpy(&next, &places[0], sizeof next);
+  const uint8_t *input = places[2];
+  cqlp_batch *batch = places[4];
+  enum state state = AT_NO_CELL;
+  uint32_t code = CQLP_DONE;
+  size_t used = 0;
+  do {
+    Py_BEGIN_ALLOW_THREADS
+    code = next(places[1], input + used, (size_t)length - used, places[3], (size_t)room, batch);
+    Py_END_ALLOW_THREADS
+    if (code != CQLP_DONE) break;
+    used += batch->used;
+    batch->used = used;
+    at = 0;
+    state = put_events(self, places[3], &at, (Py_ssize_t)batch->events);
+  } while (state == AT_NO_CELL && at == (Py_ssize_t)batch->events && batch->stop == CQLP_STOP_FULL);
+  return answer(at, state, code);
 }
 
 /* ---- arrays */
@@ -255,6 +347,7 @@ static PyObject *nested_take(PyObject *object, PyObject *arguments) {
 static PyObject *bits_of(const buffer *from, size_t count, int unless) {
   size_t length = (count + 7) / 8;
   int differs = 0;
+  if (unless >= 0 && from->length == 0) Py_RETURN_NONE;
   for (size_t at = 0; !differs && at < count / 8; at++) differs = from->bytes[at] != (unless ? 0xff : 0);
   for (size_t at = count - count % 8; !differs && at < count; at++) differs = bit_at(from->bytes, at) != unless;
   if (!differs && unless >= 0) Py_RETURN_NONE;
@@ -424,6 +517,7 @@ static void nested_dealloc(PyObject *object) {
 
 static PyMethodDef nested_methods[] = {
     {"take", nested_take, METH_VARARGS, take_doc},
+    {"read", nested_read, METH_VARARGS, read_doc},
     {"arrays", nested_arrays, METH_NOARGS, arrays_doc},
     {NULL, NULL, 0, NULL},
 };

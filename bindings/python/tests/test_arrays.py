@@ -320,14 +320,19 @@ class Arrays(unittest.TestCase):
         for _ in range(70):
             endless = (32, (endless,))
         self.assertRaises(ValueError, nested, (endless,), 1, 1)
-        for call in (lambda: nested.__new__(nested).take(1, 0, 0), lambda: nested.__new__(nested).arrays()):
-            self.assertRaises(ValueError, call)
+        place = ctypes.addressof(event)
+        for call in (lambda new: new.take(1, 0, 0), lambda new: new.arrays(), lambda new: new.read(_arrays._NEXT, place, 0, 0, place, 1, place)):
+            self.assertRaises(ValueError, call, nested.__new__(nested))
         begun = nested(((32, ((9, ()),)),), 9, 1 << 20)
+        for places in ((0, place, place, place), (_arrays._NEXT, 0, place, place), (_arrays._NEXT, place, 0, place), (_arrays._NEXT, place, place, 0)):
+            self.assertRaises(ValueError, begun.read, *places[:2], 0, 0, places[2], 1, places[3])
+        handle, batch = _native.DecoderHandle(), _native.Batch()
+        self.assertEqual(begun.read(_arrays._NEXT, ctypes.addressof(handle), 0, 0, place, 1, ctypes.addressof(batch)), (0, 0, int(cqlp.Code.NO_DECODER)))
         self.assertRaises(TypeError, begun.__init__, ((9, ()),), 1, 1)
 
         def give(tag: int, kind: int) -> None:
             event.tag, event.kind = tag, kind
-            begun.take(ctypes.addressof(event), 0, 1)
+            begun.take(place, 0, 1)
 
         for tag, kind in ((Tag.LEAVE, 0), (Tag.LEAF, 9), (Tag.ENTER, 33), (Tag.PART, 0)):
             self.assertRaises(ValueError, give, tag, kind)
