@@ -1,6 +1,7 @@
 -- Leaves and nulls that C passes, with no value around them.
 use Rattle.std.proofs.Common.{◌≡◌, ℕ, ◌<◌, ◌≤◌, Bool, true, false, nat_lt, if◌then◌else◌, List, length, take, refl, sym, ap, ◌∙◌, Result, Ok, Err, Option, Some, None, arith, subst, lt-ltb}
 use Rattle.std.specs.Prelude.{◌==◌, option_map}
+use Rattle.std.proofs.lemmas.Bool.{ltb-false}
 use Rattle.cqlp_note.specs.Heading.{beside_number}
 use Rattle.cqlp_kind.specs.declared.kind.Kind.{Kind}
 use Rattle.cqlp_kind.specs.CellStep as cell
@@ -92,3 +93,15 @@ empty_read c contents n =
     ap (λ (b : Bool). if b then Err bad_event.Unbuilt else (if nat_lt (length contents) (content_len c) then Err bad_event.NoEvent else is_event (event_with c (take (content_len c) contents)))) no_part
     ∙ ap (λ (b : Bool). if b then Err bad_event.NoEvent else is_event (event_with c (take (content_len c) contents))) long
     ∙ ap is_event (as_empty c (take (content_len c) contents) n.0 ∙ ap (λ (l : ℕ). Some (Cell_at c.row c.column (cell.Empty l))) n.1)
+
+-- ---- contents
+
+no_less : (p b : Bool) (r : Result Event BadEvent) (e : Event) → (if p then Err bad_event.Unbuilt else (if b then Err bad_event.NoEvent else r)) ≡ Ok e → b ≡ false
+no_less true b r e is = absurd cc
+no_less false true r e is = absurd cc
+no_less false false r e is = refl
+
+-- what is an event has its content
+pub read_long : (c : CqlpEvent) (contents : List ℕ) (e : Event) → event_from_c c contents ≡ Ok e → content_len c ≤ length contents
+read_long c contents e read =
+    ltb-false (length contents) (content_len c) (no_less (c.tag == numbers.TAG_PART) (nat_lt (length contents) (content_len c)) (is_event (event_with c (take (content_len c) contents))) e read)

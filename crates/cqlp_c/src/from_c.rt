@@ -96,7 +96,7 @@ pub fn is_empty(c_event: &CqlpEvent) -> bool
 
 /// How many bytes its content has; none where it has no content.
 #[inline(always)]
-fn content_len(c_event: &CqlpEvent) -> usize
+pub fn content_len(c_event: &CqlpEvent) -> usize
     ensures { result ≡ model.content_len c_event.now }
 {
     if has_content(c_event) {

@@ -2,14 +2,14 @@
 
 ghost use Rattle.std.specs.Prelude.{◌≡◌, ◌++◌, ◌≤◌, IfSome, drop, length};
 ghost use Rattle.cqlp_compose.specs.Composing.{composed};
-ghost use Rattle.cqlp_c.specs.FromC.{content_len};
+ghost use Rattle.cqlp_c.specs.FromC as from_c;
 ghost use Rattle.cqlp_c.specs.WholePages as model;
 ghost use Rattle.cqlp_c.specs.WholePages.{AreNextCells, AreWritable, IsCellOfKind, IsNextCell, IsWritable};
 ghost use Rattle.cqlp_c.specs.WholePages.{EncodesPage, OpensPage, OpensWhole, PutsPage, ReadsRows};
 
 use crate::encode::{CqlpEncoded, longest, take_all};
 use crate::event::CqlpEvent;
-use crate::from_c::{event_from_c, is_empty, is_null, leaf_from_c};
+use crate::from_c::{content_len, event_from_c, is_empty, is_null, leaf_from_c};
 use crate::numbers::*;
 use crate::versions::put;
 use cqlp_compose::{BarePage, Composer, put_event, scalar_size};
@@ -171,7 +171,9 @@ fn measure_as<'a>(kind: Kind, c_event: &CqlpEvent, contents: &'a [u8]) -> Option
     }
 }
 
-/// How many bytes the cells of a page have, where each event is all of the next cell, and all cells come; and no contents are left after theirs.
+/// How many bytes the cells of a page have, where each event is all of the next cell, and all cells come; and no contents are left after theirs. It is
+/// a function of its own, so that its loop has what it needs in registers.
+#[inline(never)]
 fn measure_cells(page: &BarePage, events: &[CqlpEvent], contents: &[u8]) -> Option<u64>
     ensures { IfSome result (λ size. AreNextCells page.now.frame 0 contents.now events.now size) }
 {
@@ -235,7 +237,7 @@ fn write_cell<'a>(c_event: &CqlpEvent, contents: &'a [u8], room: &mut [u8]) -> (
     requires { IsWritable c_event.now contents.now (length room.old) }
     ensures len { result.0 ≡ length (model.cell_bytes c_event.now contents.now) }
     ensures put { room.new ≡ model.cell_bytes c_event.now contents.now ++ drop result.0 room.old }
-    ensures rest { result.1.now ≡ drop (content_len c_event.now) contents.now }
+    ensures rest { result.1.now ≡ drop (from_c.content_len c_event.now) contents.now }
 {
     if c_event.tag == TAG_LEAF {
         match c_event.kind {
@@ -265,7 +267,7 @@ fn write_leaf<'a>(
     requires { IsWritable c_event.now contents.now (length room.old) }
     ensures len { result.0 ≡ length (model.cell_bytes c_event.now contents.now) }
     ensures put { room.new ≡ model.cell_bytes c_event.now contents.now ++ drop result.0 room.old }
-    ensures rest { result.1.now ≡ drop (content_len c_event.now) contents.now }
+    ensures rest { result.1.now ≡ drop (from_c.content_len c_event.now) contents.now }
 {
     match leaf_from_c(c_event, kind, contents) {
         Some((scalar, rest)) => {
@@ -282,19 +284,34 @@ fn write_leaf<'a>(
 }
 
 /// The same of any event.
+#[tactic(auto, using(crate::proofs::Leaves::read_long))]
+#[inline(always)]
 fn write_any<'a>(c_event: &CqlpEvent, contents: &'a [u8], room: &mut [u8]) -> (usize, &'a [u8])
     requires { IsWritable c_event.now contents.now (length room.old) }
     ensures len { result.0 ≡ length (model.cell_bytes c_event.now contents.now) }
     ensures put { room.new ≡ model.cell_bytes c_event.now contents.now ++ drop result.0 room.old }
-    ensures rest { result.1.now ≡ drop (content_len c_event.now) contents.now }
+    ensures rest { result.1.now ≡ drop (from_c.content_len c_event.now) contents.now }
 {
-    let Ok((event, rest)) = event_from_c(c_event, contents) else {
-        unreachable!()
-    };
-    (put_event(&event, room), rest)
+    let len = put_any(c_event, contents, room);
+    (len, &contents[content_len(c_event)..])
 }
 
-/// Puts the cells that have these events at the front of a room.
+/// Puts the cell of any event at the front of a room. It answers a number alone, which stays in a register, so that the loop over the cells has all that
+/// it needs in registers.
+#[inline(never)]
+fn put_any(c_event: &CqlpEvent, contents: &[u8], room: &mut [u8]) -> usize
+    requires { IsWritable c_event.now contents.now (length room.old) }
+    ensures len { result ≡ length (model.cell_bytes c_event.now contents.now) }
+    ensures put { room.new ≡ model.cell_bytes c_event.now contents.now ++ drop result room.old }
+{
+    let Ok((event, _rest)) = event_from_c(c_event, contents) else {
+        unreachable!()
+    };
+    put_event(&event, room)
+}
+
+/// Puts the cells that have these events at the front of a room. It is a function of its own, as [`measure_cells`] is.
+#[inline(never)]
 fn write_cells(events: &[CqlpEvent], contents: &[u8], room: &mut [u8])
     requires { AreWritable events.now contents.now (length room.old) }
     ensures { room.new ≡ model.cells_bytes contents.now events.now ++ drop (length (model.cells_bytes contents.now events.now)) room.old }

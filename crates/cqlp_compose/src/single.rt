@@ -1,6 +1,6 @@
 //! Cells of one event.
 
-ghost use Rattle.std.specs.Prelude.{◌≡◌, ◌+◌, ◌++◌, ◌≤◌, ◌<◌, ◌^◌, IfNone, IfSome, drop, length, option_map};
+ghost use Rattle.std.specs.Prelude.{◌≡◌, ◌+◌, ◌++◌, ◌≤◌, ◌<◌, ◌^◌, IfNone, IfSome, Some, drop, length, option_map};
 ghost use Rattle.cqlp_grammar.specs.Events.{event_of};
 ghost use Rattle.cqlp_kind.specs.Contents.{value_of};
 ghost use Rattle.cqlp_compose.specs.Contents.{content_in};
@@ -30,8 +30,21 @@ pub fn plain_kind(of: Option<&TypeTree>) -> Option<Kind>
     match of {
         None => Some(Kind::Raw),
         Some(TypeTree::Plain(kind)) => { if kind.is_plain() { Some(*kind) } else { None } }
-        Some(TypeTree::Custom(_)) => Some(Kind::Custom),
-        Some(_) => None,
+        Some(tree) => other_kind(tree),
+    }
+}
+
+/// The same of any type, as a function of its own: [`plain_kind`] calls it of the others, and finds a plain one by one comparison.
+#[tactic(auto, using(crate::proofs::Refusals::plain_has_none))]
+#[inline(never)]
+fn other_kind(tree: &TypeTree) -> Option<Kind>
+    ensures some { IfSome result (λ kind. IsScalarType (Some tree.now) kind) }
+    ensures none { IfNone result (IsNoScalarType (Some tree.now)) }
+{
+    match tree {
+        TypeTree::Plain(kind) => { if kind.is_plain() { Some(*kind) } else { None } }
+        TypeTree::Custom(_) => Some(Kind::Custom),
+        _ => None,
     }
 }
 

@@ -1,6 +1,7 @@
 // Written by dist/erase from crates/cqlp_compose/src/scalar.rt.
 //! The scalars of events: their kinds, and their contents.
 
+use crate::kit_std::prelude::{KitNumber};
 use crate::cqlp_kind::content::DAY;
 use crate::cqlp_kind::{Kind, Scalar};
 use crate::cqlp_note::Address;
@@ -95,7 +96,7 @@ fn is_allowed(scalar: &Scalar<'_>) -> bool {
         Scalar::Varchar(text) => !text.is_empty(),
         Scalar::Decimal { unscaled, .. } => !unscaled.is_empty(),
         Scalar::Timeuuid(bytes) => bytes[6] >> 4 == 1,
-        Scalar::Time(number) => number.cast_unsigned() < DAY,
+        Scalar::Time(number) => number.kit_other_sign() < DAY,
         _ => true,
     }
 }

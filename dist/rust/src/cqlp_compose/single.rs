@@ -21,8 +21,17 @@ pub fn plain_kind(of: Option<&TypeTree>) -> Option<Kind> {
     match of {
         None => Some(Kind::Raw),
         Some(TypeTree::Plain(kind)) => { if kind.is_plain() { Some(*kind) } else { None } }
-        Some(TypeTree::Custom(_)) => Some(Kind::Custom),
-        Some(_) => None,
+        Some(tree) => other_kind(tree),
+    }
+}
+
+/// The same of any type, as a function of its own: [`plain_kind`] calls it of the others, and finds a plain one by one comparison.
+#[inline(never)]
+fn other_kind(tree: &TypeTree) -> Option<Kind> {
+    match tree {
+        TypeTree::Plain(kind) => { if kind.is_plain() { Some(*kind) } else { None } }
+        TypeTree::Custom(_) => Some(Kind::Custom),
+        _ => None,
     }
 }
 
