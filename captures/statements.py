@@ -200,8 +200,8 @@ def many(program, data, room):
         print(f'status {status}, {most} KiB')
 
 
-BAD = 'no object with prepared_id and query_string'
-NONE = 'no statement; write it by cqlsh -e "SELECT JSON prepared_id, query_string FROM system.prepared_statements"'
+BAD = 'no row of system.prepared_statements, system_schema.columns or system_schema.types'
+NONE = 'no statement; write it by cqlsh -e "SELECT JSON * FROM system.prepared_statements"'
 GOOD = object_of(b'\1' * 16, 'SELECT')
 REFUSED = [
     ('{', f':1: {BAD}'), (f' [json]\n-----\n {GOOD}\n{{"prepared_id": "0x00"}}\n', f':4: {BAD}'), ('\n\n{"query_string": "SELECT"}', f':3: {BAD}'),
@@ -228,7 +228,7 @@ def refused(program, data, room):
         found = ran(program, '--port', '36401', '--statements', file, data / 'driver.pcap')
         if said and found != (3, '', said) or not said and found[0]:
             print(f'{file}: {found}')
-    for other in (['--rows', '--connection', '1'], ['--events'], ['--streams', room]):
+    for other in (['--events'], ['--streams', room]):
         found = ran(program, '--statements', file, *other, data / 'driver.pcap')
         if found[:2] != (2, '') or other[0] not in found[2] or '--statements <FILE>' not in found[2]:
             print(f'{other}: {found}')

@@ -12,6 +12,8 @@ use Rattle.cqlp_observer.specs.declared.message.Frame.{Frame}
 use Rattle.cqlp_observer.specs.declared.message.Message.{Message}
 use Rattle.cqlp_observer.specs.declared.paired.Paired.{Paired}
 use Rattle.cqlp_observer.specs.declared.paired.Paired.TheVariants.{Exchange, Unanswered, Unasked, Event}
+use Rattle.cqlp_pattern.specs.declared.pattern.Pattern.{Pattern}
+use Rattle.cqlp_pattern.specs.Matching.{is_match}
 use Rattle.cqlp_tcp_segment.specs.declared.addresses.Address.{Address}
 use Rattle.cqlp_tcp_segment.specs.declared.addresses.Address.TheVariants as address
 use Rattle.cqlp_tcp_segment.specs.declared.addresses.Endpoint.{Endpoint}
@@ -179,22 +181,34 @@ says part None = false
 says part (Some (Text text is_whole)) = is_part part text
 says part (Some (Id id is_whole)) = false
 
-abbrev pub request_says : (known : Known) → (part : List ℕ) → Message Kept → Bool
-request_says known part m = says part (named known (statement m.frame.header m.kept.front))
+-- what a request asks to be done
+abbrev pub request_said : (known : Known) → Message Kept → Option Said
+request_said known m = named known (statement m.frame.header m.kept.front)
 
-abbrev pub paired_says : (known : Known) → (part : List ℕ) → Paired Kept → Bool
-paired_says known part (Exchange request response) = request_says known part request
-paired_says known part (Unanswered request) = request_says known part request
-paired_says known part (Unasked response) = false
-paired_says known part (Event event) = false
+abbrev pub paired_said : (known : Known) → Paired Kept → Option Said
+paired_said known (Exchange request response) = request_said known request
+paired_said known (Unanswered request) = request_said known request
+paired_said known (Unasked response) = None
+paired_said known (Event event) = None
 
-abbrev pub reported_saying : (known : Known) → (part : List ℕ) → Report → Bool
-reported_saying known part (Messages t end) = paired_says known part t
-reported_saying known part (Unread time o) = false
+abbrev pub reported_said : (known : Known) → Report → Option Said
+reported_said known (Messages t end) = paired_said known t
+reported_said known (Unread time o) = None
 
 abbrev pub is_saying : (asked : Option StatementPart) → (known : Known) → Report → Bool
 is_saying None known r = true
-is_saying (Some part) known r = reported_saying known (bytes_of part) r
+is_saying (Some part) known r = says (bytes_of part) (reported_said known r)
+
+-- ---- The text of its statement, as far as it is known, has a match of the pattern that is asked for.
+
+abbrev pub has_match : Pattern → Option Said → Bool
+has_match pattern None = false
+has_match pattern (Some (Text text is_whole)) = is_match pattern text is_whole
+has_match pattern (Some (Id id is_whole)) = false
+
+abbrev pub is_matching : (asked : Option Pattern) → (known : Known) → Report → Bool
+is_matching None known r = true
+is_matching (Some pattern) known r = has_match pattern (reported_said known r)
 
 -- ---- all that is asked for
 
@@ -202,4 +216,4 @@ abbrev pub shows : ExchangeFilter → (known : Known) → (first : Option ℕ) �
 shows f known first n r =
     is_of f.connection n.number && is_between f n.ends && is_slow f.slow r
     && (not f.errors || is_trouble r) && is_asking f.opcode r && is_replied f.kind r
-    && is_within f first (begun r) && is_saying f.statement known r
+    && is_within f first (begun r) && is_saying f.statement known r && is_matching f.pattern known r

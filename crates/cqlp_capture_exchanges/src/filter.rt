@@ -5,9 +5,9 @@ ghost use Rattle.cqlp_capture_exchanges.specs.Reports.{report_of};
 ghost use Rattle.cqlp_capture_exchanges.specs.Statements.{said_of};
 ghost use Rattle.cqlp_capture_exchanges.specs.Filters.{asks, begun, begun_in, has_failed, has_opcode, is_asking, is_at};
 ghost use Rattle.cqlp_capture_exchanges.specs.Filters.{is_at_least, is_at_most, is_between, is_end, is_error, is_failure, is_host, is_of};
-ghost use Rattle.cqlp_capture_exchanges.specs.Filters.{is_saying, is_since, is_slow, is_trouble, is_until, is_within, paired_says};
+ghost use Rattle.cqlp_capture_exchanges.specs.Filters.{has_match, is_matching, is_saying, is_since, is_slow, is_trouble, is_until, is_within, paired_said};
 ghost use Rattle.cqlp_capture_exchanges.specs.Filters.{has_kind, is_error_with, is_replied, is_result_of, replied_by, reported_asking, reported_replied};
-ghost use Rattle.cqlp_capture_exchanges.specs.Filters.{reported_saying, reported_slow, request_says, says, took_at_least};
+ghost use Rattle.cqlp_capture_exchanges.specs.Filters.{reported_said, reported_slow, request_said, says, took_at_least};
 
 use crate::connection::Connection;
 use crate::part::{StatementPart, is_part};
@@ -18,6 +18,7 @@ use crate::span::{Span, is_short, time_between, took};
 use crate::statement::{Statement, statement_of};
 use cqlp_note::Opcode;
 use cqlp_observer::{Frame, Kept, Message, Paired};
+use cqlp_pattern::Pattern;
 use cqlp_tcp_connections::Ends;
 use cqlp_tcp_segment::{Address, Endpoint};
 use std::alloc::Allocator;
@@ -80,6 +81,8 @@ pub struct ExchangeFilter {
     pub until: Option<Moment>,
     /// Only requests whose statement has this text, as far as it is known.
     pub statement: Option<StatementPart>,
+    /// Only requests whose statement has a match of this pattern, as far as it is known.
+    pub pattern: Option<Pattern>,
     /// Only what is reported of the connection with this number.
     pub connection: Option<u64>,
 }
@@ -98,6 +101,7 @@ impl ExchangeFilter {
         since: None,
         until: None,
         statement: None,
+        pattern: None,
         connection: None,
     };
 
@@ -119,6 +123,7 @@ impl ExchangeFilter {
             && is_replied(self.kind, report)
             && self.is_within(first, begun(report))
             && is_saying(&self.statement, known, report)
+            && is_matching(&self.pattern, known, report)
     }
 
     /// Whether this is a time that is asked for, of a capture whose first packet came at that one.
@@ -404,35 +409,55 @@ fn is_saying<A: Allocator>(
     ensures { result ≡ is_saying asked.now known.now (report_of report.now) }
 {
     match asked {
-        Some(part) => reported_saying(known, part.as_slice(), report),
+        Some(part) => says(part.as_slice(), reported_statement(known, report)),
         None => true,
     }
 }
 
-fn reported_saying<A: Allocator>(known: &Known<A>, part: &[u8], report: &Report<A>) -> bool
-    ensures { result ≡ reported_saying known.now part.now (report_of report.now) }
+/// Whether the text of a request's statement has a match of the pattern that is asked for.
+fn is_matching<A: Allocator>(asked: &Option<Pattern>, known: &Known<A>, report: &Report<A>) -> bool
+    ensures { result ≡ is_matching asked.now known.now (report_of report.now) }
+{
+    match asked {
+        Some(pattern) => has_match(pattern, reported_statement(known, report)),
+        None => true,
+    }
+}
+
+/// What a request that is reported asks to be done.
+fn reported_statement<'a, A: Allocator>(
+    known: &'a Known<A>,
+    report: &'a Report<A>,
+) -> Option<Statement<'a>>
+    ensures { option_map said_of result ≡ reported_said known.now (report_of report.now) }
 {
     match report {
-        Report::Messages { paired, .. } => paired_says(known, part, paired),
-        Report::Unread { .. } => false,
+        Report::Messages { paired, .. } => paired_statement(known, paired),
+        Report::Unread { .. } => None,
     }
 }
 
-fn paired_says<A: Allocator>(known: &Known<A>, part: &[u8], exchange: &Paired<Kept<A>>) -> bool
-    ensures { result ≡ paired_says known.now part.now exchange.now }
+fn paired_statement<'a, A: Allocator>(
+    known: &'a Known<A>,
+    exchange: &'a Paired<Kept<A>>,
+) -> Option<Statement<'a>>
+    ensures { option_map said_of result ≡ paired_said known.now exchange.now }
 {
     match exchange {
-        Paired::Exchange { request, .. } => request_says(known, part, request),
-        Paired::Unanswered { request } => request_says(known, part, request),
-        Paired::Unasked { .. } | Paired::Event { .. } => false,
+        Paired::Exchange { request, .. } => request_statement(known, request),
+        Paired::Unanswered { request } => request_statement(known, request),
+        Paired::Unasked { .. } | Paired::Event { .. } => None,
     }
 }
 
-fn request_says<A: Allocator>(known: &Known<A>, part: &[u8], request: &Message<Kept<A>>) -> bool
-    ensures { result ≡ request_says known.now part.now request.now }
+fn request_statement<'a, A: Allocator>(
+    known: &'a Known<A>,
+    request: &'a Message<Kept<A>>,
+) -> Option<Statement<'a>>
+    ensures { option_map said_of result ≡ request_said known.now request.now }
 {
     let statement = statement_of(&request.frame.header, request.kept.front());
-    says(part, named(known, statement))
+    named(known, statement)
 }
 
 fn says(part: &[u8], statement: Option<Statement<'_>>) -> bool
@@ -440,6 +465,16 @@ fn says(part: &[u8], statement: Option<Statement<'_>>) -> bool
 {
     match statement {
         Some(Statement::Text { text, .. }) => is_part(part, text.as_bytes()),
+        Some(Statement::Id { .. }) => false,
+        None => false,
+    }
+}
+
+fn has_match(pattern: &Pattern, statement: Option<Statement<'_>>) -> bool
+    ensures { result ≡ has_match pattern.now (option_map said_of statement.entry) }
+{
+    match statement {
+        Some(Statement::Text { text, is_whole }) => pattern.is_match(text.as_bytes(), is_whole),
         Some(Statement::Id { .. }) => false,
         None => false,
     }

@@ -10,6 +10,7 @@ use crate::cqlp_capture_exchanges::span::{Span, is_short, time_between, took};
 use crate::cqlp_capture_exchanges::statement::{Statement, statement_of};
 use crate::cqlp_note::Opcode;
 use crate::cqlp_observer::{SeenFrame, Kept, SeenMessage, Paired};
+use crate::cqlp_pattern::Pattern;
 use crate::cqlp_tcp_connections::Ends;
 use crate::cqlp_tcp_segment::{IpAddress, Endpoint};
 use crate::kit_host::net::IpAddr;
@@ -69,6 +70,8 @@ pub struct ExchangeFilter {
     pub until: Option<Moment>,
     /// Only requests whose statement has this text, as far as it is known.
     pub statement: Option<StatementPart>,
+    /// Only requests whose statement has a match of this pattern, as far as it is known.
+    pub pattern: Option<Pattern>,
     /// Only what is reported of the connection with this number.
     pub connection: Option<u64>,
 }
@@ -85,6 +88,7 @@ impl ExchangeFilter {
         since: None,
         until: None,
         statement: None,
+        pattern: None,
         connection: None,
     };
 
@@ -104,6 +108,7 @@ impl ExchangeFilter {
             && is_replied(self.kind, report)
             && self.is_within(first, begun(report))
             && is_saying(&self.statement, known, report)
+            && is_matching(&self.pattern, known, report)
     }
 
     /// Whether this is a time that is asked for, of a capture whose first packet came at that one.
@@ -329,34 +334,60 @@ fn is_saying(
     report: &Report,
 ) -> bool {
     match asked {
-        Some(part) => reported_saying(known, part.as_slice(), report),
+        Some(part) => says(part.as_slice(), reported_statement(known, report)),
         None => true,
     }
 }
 
-fn reported_saying(known: &Known, part: &[u8], report: &Report) -> bool {
+/// Whether the text of a request's statement has a match of the pattern that is asked for.
+fn is_matching(asked: &Option<Pattern>, known: &Known, report: &Report) -> bool {
+    match asked {
+        Some(pattern) => has_match(pattern, reported_statement(known, report)),
+        None => true,
+    }
+}
+
+/// What a request that is reported asks to be done.
+fn reported_statement<'a>(
+    known: &'a Known,
+    report: &'a Report,
+) -> Option<Statement<'a>> {
     match report {
-        Report::Messages { paired, .. } => paired_says(known, part, paired),
-        Report::Unread { .. } => false,
+        Report::Messages { paired, .. } => paired_statement(known, paired),
+        Report::Unread { .. } => None,
     }
 }
 
-fn paired_says(known: &Known, part: &[u8], exchange: &Paired<Kept>) -> bool {
+fn paired_statement<'a>(
+    known: &'a Known,
+    exchange: &'a Paired<Kept>,
+) -> Option<Statement<'a>> {
     match exchange {
-        Paired::Exchange { request, .. } => request_says(known, part, request),
-        Paired::Unanswered { request } => request_says(known, part, request),
-        Paired::Unasked { .. } | Paired::Event { .. } => false,
+        Paired::Exchange { request, .. } => request_statement(known, request),
+        Paired::Unanswered { request } => request_statement(known, request),
+        Paired::Unasked { .. } | Paired::Event { .. } => None,
     }
 }
 
-fn request_says(known: &Known, part: &[u8], request: &SeenMessage<Kept>) -> bool {
+fn request_statement<'a>(
+    known: &'a Known,
+    request: &'a SeenMessage<Kept>,
+) -> Option<Statement<'a>> {
     let statement = statement_of(&request.frame.header, request.kept.front());
-    says(part, named(known, statement))
+    named(known, statement)
 }
 
 fn says(part: &[u8], statement: Option<Statement<'_>>) -> bool {
     match statement {
         Some(Statement::Text { text, .. }) => is_part(part, text.as_bytes()),
+        Some(Statement::Id { .. }) => false,
+        None => false,
+    }
+}
+
+fn has_match(pattern: &Pattern, statement: Option<Statement<'_>>) -> bool {
+    match statement {
+        Some(Statement::Text { text, is_whole }) => pattern.is_match(text.as_bytes(), is_whole),
         Some(Statement::Id { .. }) => false,
         None => false,
     }

@@ -1,0 +1,2 @@
+mod Followers
+mod Found
