@@ -9,6 +9,7 @@ use Rattle.cqlp_capture_streams.specs.Captures.{ReadsMade}
 use Rattle.cqlp_capture_streams.specs.ConnectionEvents.{ConnectionEvent}
 use Rattle.cqlp_capture_streams.specs.Streams.{ReadsCapture}
 use Rattle.cqlp_capture_streams.proofs.Causes.{EndedIfFault, FailsSo, ended_by, fault_cause}
+use Rattle.cqlp_statement_types.specs.Types.{Given}
 use Rattle.cqlp_capture_rows.specs.Listening.{Listening, StopsAt, new_listening, with_connection_event}
 use Rattle.cqlp_capture_rows.specs.Capturing.{FaultsHaveCauses}
 
@@ -22,10 +23,10 @@ stops v w s fault.NoMemory a = tt
 stops v w s fault.TooManyTurns a = absurd a
 stops v w s (fault.File f) a = absurd a
 
-ended : (l : StreamsLimits) (asked : ℕ) (ports xs : List ℕ) (m : ReadsMade) (left : Option (List ℕ)) (out : Output) (w : Listening) (r : Result CaptureRead StreamsFault) → ReadsCapture with_connection_event StopsAt l ports xs m r left (new_listening asked out) w → EndedIfFault m r out.failures w.output.failures
-ended l asked ports xs m left out w (Ok x) a = tt
-ended l asked ports xs m left out w (Err e) a = fault_cause with_connection_event StopsAt failures_of (λ v s. refl) stops l ports xs m e left (new_listening asked out) w a
+ended : (l : StreamsLimits) (given : Given) (asked : ℕ) (ports xs : List ℕ) (m : ReadsMade) (left : Option (List ℕ)) (out : Output) (w : Listening) (r : Result CaptureRead StreamsFault) → ReadsCapture with_connection_event StopsAt l ports xs m r left (new_listening given asked out) w → EndedIfFault m r out.failures w.output.failures
+ended l given asked ports xs m left out w (Ok x) a = tt
+ended l given asked ports xs m left out w (Err e) a = fault_cause with_connection_event StopsAt failures_of (λ v s. refl) stops l ports xs m e left (new_listening given asked out) w a
 
 pub rows_causes : FaultsHaveCauses
-rows_causes l asked ports xs m left out err out' err' (r, (w, reads, is), ends) =
-    ended_by ports (codes "rows") m r out err out' err' (subst (λ (o : Output). EndedIfFault m r out.failures o.failures) (sym is) (ended l asked ports xs m left out w r reads)) ends
+rows_causes l given asked ports xs m left out err out' err' (r, (w, reads, is), ends) =
+    ended_by ports (codes "rows") m r out err out' err' (subst (λ (o : Output). EndedIfFault m r out.failures o.failures) (sym is) (ended l given asked ports xs m left out w r reads)) ends

@@ -1,3 +1,4 @@
+mod Copied
 pub mod Pages
 pub mod Heard
 pub mod Silence

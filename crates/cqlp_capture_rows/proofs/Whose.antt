@@ -7,13 +7,16 @@ use Rattle.std.specs.Prelude.{length}
 use Rattle.cqlp_kind.specs.declared.node.Node.{Node}
 use Rattle.cqlp_capture_prepared.specs.Keeping.{Keeping, prepared, types_of}
 use Rattle.cqlp_capture_rows.specs.Others.{prepared_as}
-use Rattle.cqlp_capture_rows.specs.Laws.{ElseOfOthers, LatestOfOthers, OwnTypesFirst}
+use Rattle.cqlp_capture_rows.specs.Laws.{ElseOfGiven, ElseOfOthers, LatestOfOthers, OwnTypesFirst}
 
 pub own_first : OwnTypesFirst
 own_first id r types is = rw is refl
 
 pub else_of_others : ElseOfOthers
-else_of_others id r none = rw none refl
+else_of_others id r types none is = rw (none, is) refl
+
+pub else_of_given : ElseOfGiven
+else_of_given id r none none' = rw (none, none') refl
 
 -- the statement that was prepared last
 prepared_last : (id : List ℕ) (k : Keeping) (types : List Node) → length id ≤ 64 → types_of id (prepared id types k) ≡ Some types

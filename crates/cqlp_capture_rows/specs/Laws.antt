@@ -1,18 +1,19 @@
 -- Laws: two answers are the same, and whose types a page has.
 use Rattle.std.specs.Prelude.{◌≡◌, ℕ, ◌≤◌, List, length, Some, None, Ok}
 use Rattle.cqlp_kind.specs.declared.node.Node.{Node}
+use Rattle.cqlp_statement_types.specs.Types.{Given}
 use Rattle.cqlp_capture_prepared.specs.Keeping.{types_of}
 use Rattle.cqlp_capture_frames.specs.Happenings.{Ends}
 use Rattle.cqlp_text.specs.Outputs.{Output}
 use Rattle.cqlp_capture_streams.specs.ConnectionEvents.{ConnectionEvent}
-use Rattle.cqlp_capture_rows.specs.Others.{OtherTypes, learns}
+use Rattle.cqlp_capture_rows.specs.Others.{OtherTypes, learns, types_given}
 use Rattle.cqlp_capture_rows.specs.Responses.{Responses, types_known}
 use Rattle.cqlp_capture_rows.specs.Listening.{Hears, Listening, new_listening}
 
 abbrev pub OneAnswerOfNew : Type 0
 OneAnswerOfNew =
-    (asked : ℕ) (out : Output) (e f : Listening)
-    → e ≡ new_listening asked out → f ≡ new_listening asked out → f ≡ e
+    (given : Given) (asked : ℕ) (out : Output) (e f : Listening)
+    → e ≡ new_listening given asked out → f ≡ new_listening given asked out → f ≡ e
 
 -- where the output does not fail
 abbrev pub OneAnswerOfHear : Type 0
@@ -28,9 +29,17 @@ OwnTypesFirst =
 
 -- or else those that the others' did
 abbrev pub ElseOfOthers : Type 0
-ElseOfOthers = (id : List ℕ) (r : Responses) → types_of id r.known ≡ None → types_known id r ≡ types_of id r.others.known
+ElseOfOthers =
+    (id : List ℕ) (r : Responses) (types : List Node)
+    → types_of id r.known ≡ None → types_of id r.others.known ≡ Some types → types_known id r ≡ Some types
 
--- of these the latest
+-- or else those that were given
+abbrev pub ElseOfGiven : Type 0
+ElseOfGiven =
+    (id : List ℕ) (r : Responses)
+    → types_of id r.known ≡ None → types_of id r.others.known ≡ None → types_known id r ≡ types_given id r.others.given
+
+-- of the others the latest
 abbrev pub LatestOfOthers : Type 0
 LatestOfOthers =
     (id : List ℕ) (o : OtherTypes) (types : List Node)

@@ -7,6 +7,7 @@ use Rattle.cqlp_text.specs.Outputs.{Output, StopsWithin, with_text}
 use Rattle.cqlp_capture_streams.specs.declared.fault.StreamsFault.{StreamsFault}
 use Rattle.cqlp_capture_streams.specs.declared.fault.StreamsFault.TheVariants as fault
 use Rattle.cqlp_capture_streams.specs.ConnectionEvents.{ConnectionEvent, Packet, New, Of, Left}
+use Rattle.cqlp_statement_types.specs.Types.{Given}
 use Rattle.cqlp_capture_prepared.specs.declared.requests.Requests.{Requests}
 use Rattle.cqlp_capture_prepared.specs.Keeping.{new_keeping}
 use Rattle.cqlp_capture_prepared.specs.Requests.{Asked, asked, silent, step_asked}
@@ -33,9 +34,9 @@ abbrev pub listening : ℕ → Requests → Direction → Responses → OtherCon
 listening asked requests direction responses others output =
     record { asked = asked; requests = requests; direction = direction; responses = responses; others = others; output = output }
 
-abbrev pub new_listening : (asked : ℕ) → Output → Listening
-new_listening asked out =
-    listening asked (silent false) (begun rules true false) (new_responses asked (new_keeping STATEMENTS EXECUTES)) no_connections out
+abbrev pub new_listening : Given → (asked : ℕ) → Output → Listening
+new_listening given asked out =
+    listening asked (silent false) (begun rules true false) (new_responses given asked (new_keeping STATEMENTS EXECUTES)) no_connections out
 
 -- ---- what an event of a connection does: the text, and the requests, the responses and the other connections after it
 

@@ -3,6 +3,7 @@ use Rattle.std.specs.Prelude.{◌≡◌, ℕ, ℤ, true, if◌then◌else◌, Li
 use Rattle.cqlp_note.specs.declared.header.Header.{Header}
 use Rattle.cqlp_note.specs.Limits.{Rules, rules_of}
 use Rattle.cqlp_kind.specs.declared.node.Node.{Node}
+use Rattle.cqlp_statement_types.specs.Types.{Given}
 use Rattle.cqlp_capture_prepared.specs.Keeping.{Keeping, answered, named_under, types_of}
 use Rattle.cqlp_capture_frames.specs.Happenings.{Happening, Manner, Begins, Says, Fails, Compressed, Unread, Gap, Ends, Closes}
 use Rattle.cqlp_capture_rows.specs.declared.limits.TheConstants.{LIMITS}
@@ -11,7 +12,7 @@ use Rattle.cqlp_capture_rows.specs.declared.spot.FrameSpot.{FrameSpot}
 use Rattle.cqlp_capture_frames.specs.Lines.{compressed_line, gap_line, line_place, refused_line, unread_line}
 use Rattle.cqlp_capture_rows.specs.Spots.{frame_spot, spot}
 use Rattle.cqlp_capture_rows.specs.Frames.{is_result}
-use Rattle.cqlp_capture_rows.specs.Others.{OtherTypes, no_other_types, prepared_as, used_by}
+use Rattle.cqlp_capture_rows.specs.Others.{OtherTypes, no_other_types, or_else, other_types_of, prepared_as, used_by}
 use Rattle.cqlp_capture_rows.specs.Pages.{Page, cut_text, no_rows, page_after, rows_part}
 
 abbrev pub rules : Rules
@@ -29,9 +30,9 @@ pub record Responses : Type 0 where
 abbrev pub responses : ℕ → Keeping → OtherTypes → FrameSpot → Page → Responses
 responses number known others begun page = record { number = number; known = known; others = others; begun = begun; page = page }
 
--- nothing came
-abbrev pub new_responses : (number : ℕ) → Keeping → Responses
-new_responses number known = responses number known no_other_types (frame_spot (spot number 0) NO_HEADER) no_rows
+-- nothing came, and these types of statements were given
+abbrev pub new_responses : Given → (number : ℕ) → Keeping → Responses
+new_responses given number known = responses number known (no_other_types given) (frame_spot (spot number 0) NO_HEADER) no_rows
 
 abbrev pub with_known : Keeping → Responses → Responses
 with_known known r = responses r.number known r.others r.begun r.page
@@ -47,14 +48,11 @@ with_page page r = responses r.number r.known r.others r.begun page
 abbrev pub known_by : Header → Page → (types : List Node) → Keeping → Keeping
 known_by h p types known = if is_result h.opcode then prepared_as p.id types known else known
 
--- ---- the types of a page: those that the last PREPARED on its connection said, or else those that the last one on another connection did
-
-abbrev pub or_else : {X : Type 0} → Option X → Option X → Option X
-or_else None other = other
-or_else (Some x) other = Some x
+-- ---- the types of a page: those that the last PREPARED on its connection said, or else those that the last one on another connection did, or else
+-- those that were given
 
 abbrev pub types_known : (id : List ℕ) → Responses → Option (List Node)
-types_known id r = or_else (types_of id r.known) (types_of id r.others.known)
+types_known id r = or_else (types_of id r.known) (other_types_of id r.others)
 
 -- where an EXECUTE waits under its stream id, of the statement which that names
 abbrev pub page_types : (stream : ℤ) → Responses → Option (List Node)

@@ -1,7 +1,7 @@
 //! Laws of what is written of pages. No code needs them.
 
 ghost use Rattle.cqlp_capture_rows.specs.Capturing.{FaultsHaveCauses, OneAnswerOfWriteRows};
-ghost use Rattle.cqlp_capture_rows.specs.Laws.{ElseOfOthers, LatestOfOthers, OneAnswerOfHear, OneAnswerOfNew, OwnTypesFirst};
+ghost use Rattle.cqlp_capture_rows.specs.Laws.{ElseOfGiven, ElseOfOthers, LatestOfOthers, OneAnswerOfHear, OneAnswerOfNew, OwnTypesFirst};
 
 /// Where memory is granted `Rows::new` has one answer, and so has `hear` where the output does not fail.
 pub fn one_answer()
@@ -21,9 +21,10 @@ pub fn faults_have_causes()
 {}
 
 /// A page has the types that the last PREPARED on its own connection said of its statement, if they are known, or else those that the last one on any
-/// other connection said.
+/// other connection said, or else those that were given.
 pub fn own_types_first()
     ensures own { OwnTypesFirst }
     ensures others { ElseOfOthers }
+    ensures given { ElseOfGiven }
     ensures latest { LatestOfOthers }
 {}

@@ -1,8 +1,8 @@
 //! What PREPAREDs on other connections say of statements.
 
 ghost use Rattle.std.specs.Prelude.{◌≡◌, IfOk, OnOk, option_map};
-ghost use Rattle.cqlp_capture_prepared.specs.Keeping.{types_of};
-ghost use Rattle.cqlp_capture_rows.specs.Others.{learned, no_other_types, used_by};
+ghost use Rattle.cqlp_statement_types.specs.Types.{table_given};
+ghost use Rattle.cqlp_capture_rows.specs.Others.{learned, no_other_types, other_types_of, types_given, used_by};
 
 use crate::other_limits::{OTHER_LIMITS, OTHER_STATEMENTS};
 use crate::page::note_id;
@@ -11,6 +11,7 @@ use cqlp_capture_frames::{Direction, ReportFault, Transcript};
 use cqlp_capture_prepared::{NewPreparedError, PreparedTypes, StatementId};
 use cqlp_grammar::Event;
 use cqlp_note::{Header, NoMemory, Reason};
+use cqlp_statement_types::StatementTypes;
 use cqlp_tcp_reassembly::{GapCause, StreamStep};
 use cqlp_text::{Pen, TextWriter};
 use cqlp_type::TypeTable;
@@ -18,11 +19,12 @@ use std::alloc::{AllocError, Allocator, Global};
 use std::marker::Model;
 
 /// The types of statements that were prepared on other connections, the latest of each: at most [`OTHER_STATEMENTS`], of which those go first that were
-/// prepared, or used by a page, longest ago.
+/// prepared, or used by a page, longest ago. And those of statements that were prepared before the capture, as they were given.
 #[derive(Drop)]
 pub(crate) struct OtherTypes<A: Allocator = Global> {
     alloc: A,
     known: PreparedTypes<A>,
+    given: StatementTypes<A>,
     /// The id that the frame named which is read.
     id: Option<StatementId>,
 }
@@ -32,15 +34,26 @@ impl<A: Allocator> Model for OtherTypes<A> {
 
     ghost Value = { OtherTypes };
 
-    ghost view = { λ o. other_types o.known o.id };
+    ghost view = { λ o. other_types o.known o.given o.id };
 }
 
 impl<A: Allocator> OtherTypes<A> {
-    /// The types that the last PREPARED said which named this id, if they are still known.
+    /// The types that the last PREPARED said which named this id, if they are still known, or else those that were given.
     pub(crate) fn types_of(&self, id: &StatementId) -> Option<&TypeTable<A>>
-        ensures { option_map (λ table. table.now.nodes) result ≡ types_of id.now self.now.known }
+        ensures { option_map (λ table. table.now.nodes) result ≡ other_types_of id.now self.now }
     {
-        self.known.types_of(id)
+        match self.known.types_of(id) {
+            Some(types) => Some(types),
+            None => self.types_given(id),
+        }
+    }
+
+    /// The types that were given for this id.
+    #[tactic(auto, using(crate::proofs::Copied::copied_nodes))]
+    fn types_given(&self, id: &StatementId) -> Option<&TypeTable<A>>
+        ensures { option_map (λ table. table.now.nodes) result ≡ types_given id.now self.now.given }
+    {
+        self.given.get(id.as_slice())
     }
 
     /// Says that a page has the types of this statement, if it is known.
@@ -52,14 +65,15 @@ impl<A: Allocator> OtherTypes<A> {
 }
 
 impl<A: Allocator + Clone> OtherTypes<A> {
-    /// Nothing is known. Memory for the list is taken here.
-    pub(crate) fn new(alloc: A) -> Result<Self, AllocError>
-        ensures { IfOk result (λ o. o ≡ no_other_types) }
+    /// Nothing is known but the types that are given. Memory for the list is taken here.
+    pub(crate) fn new(alloc: A, given: StatementTypes<A>) -> Result<Self, AllocError>
+        ensures { IfOk result (λ o. o ≡ no_other_types given) }
     {
         match PreparedTypes::new(alloc.clone()?, OTHER_STATEMENTS, 1) {
             Ok(known) => Ok(OtherTypes {
                 alloc,
                 known,
+                given,
                 id: None,
             }),
             Err(NewPreparedError::NoMemory | NewPreparedError::BadLimit) => Err(AllocError),

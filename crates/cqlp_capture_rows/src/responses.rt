@@ -22,6 +22,7 @@ use cqlp_capture_frames::{
 use cqlp_capture_prepared::{NewPreparedError, PreparedTypes, Requests, StatementId};
 use cqlp_grammar::{Event, SinkFault};
 use cqlp_note::{Header, NoMemory, Opcode, Reason};
+use cqlp_statement_types::StatementTypes;
 use cqlp_tcp_reassembly::{GapCause, StreamStep};
 use cqlp_text::{Pen, TextWriter};
 use cqlp_type::TypeTable;
@@ -59,11 +60,11 @@ impl<A: Allocator> Model for Responses<A> {
 }
 
 impl<A: Allocator + Clone> Responses<A> {
-    /// Nothing came of the connection with this number. All memory but that of types is taken here.
-    pub(crate) fn new(alloc: A, number: u64) -> Result<Self, AllocError>
-        ensures { IfOk result (λ r. r ≡ new_responses number (new_keeping STATEMENTS EXECUTES)) }
+    /// Nothing came of the connection with this number, and these types of statements are given. All memory but that of types is taken here.
+    pub(crate) fn new(alloc: A, number: u64, given: StatementTypes<A>) -> Result<Self, AllocError>
+        ensures { IfOk result (λ r. r ≡ new_responses given number (new_keeping STATEMENTS EXECUTES)) }
     {
-        let others = OtherTypes::new(alloc.clone()?)?;
+        let others = OtherTypes::new(alloc.clone()?, given)?;
         match PreparedTypes::new(alloc, STATEMENTS, EXECUTES) {
             Ok(known) => Ok(Responses {
                 number,

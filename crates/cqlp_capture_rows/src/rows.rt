@@ -18,6 +18,7 @@ use cqlp_capture_frames::{Direction, ReportFault};
 use cqlp_capture_prepared::Requests;
 use cqlp_capture_streams::{ConnectionEvent, Listener, StreamsFault};
 use cqlp_note::{NoMemory, Target};
+use cqlp_statement_types::StatementTypes;
 use cqlp_tcp_connections::{Delivery, Way};
 use cqlp_text::{Buffered, TextWriter};
 use std::alloc::{AllocError, Allocator, Global};
@@ -27,7 +28,8 @@ use std::marker::Model;
 const ROOM: usize = 65_536;
 
 /// Reads the frames of one connection of a capture, and writes the text of the pages among them, each part of it when its last byte is there.
-/// A page without metadata has the types that PREPARE said of the statement whose EXECUTE it answers: on its connection, or else on another one.
+/// A page without metadata has the types that PREPARE said of the statement whose EXECUTE it answers: on its connection, or else on another one, or else
+/// those that were given.
 ///
 /// Memory is taken in `new`; after it for the decoder of a frame, some 1.1 MiB, which is given back behind the frame; and for the types of a statement
 /// that is prepared, and of a page that answers an EXECUTE: one request each, of `LIMITS.entries` nodes. At most [`STATEMENTS`] statements are known,
@@ -78,13 +80,13 @@ impl<O: Target, A: Allocator + Clone> Rows<O, A> {
     ghost use Rattle.cqlp_capture_rows.specs.OtherConnections as other;
     ghost use Rattle.cqlp_capture_rows.specs.Listening.{Changes, Hears, if_asked, leaves, new_listening, overheard, with_connections};
 
-    /// Nothing came of the connection with this number, and its pages go to this output. Memory for all but types and frames is taken here; where it
-    /// is not granted, the output is given back.
-    pub fn new(alloc: A, asked: u64, out: O) -> Result<Self, O>
-        ensures ok { IfOk result (λ r. r ≡ new_listening asked (written O.Target out)) }
+    /// Nothing came of the connection with this number, these types of statements are given, and its pages go to this output. Memory for all but types and
+    /// frames is taken here; where it is not granted, the output is given back.
+    pub fn new(alloc: A, given: StatementTypes<A>, asked: u64, out: O) -> Result<Self, O>
+        ensures ok { IfOk result (λ r. r ≡ new_listening given asked (written O.Target out)) }
         ensures err { IfErr result (λ o. written O.Target o ≡ written O.Target out) }
     {
-        match take_memory(alloc, asked) {
+        match take_memory(alloc, given, asked) {
             Ok((direction, responses, others, buffer)) => Ok(Rows {
                 asked,
                 requests: Requests::new(false),
@@ -204,14 +206,15 @@ fn answer_of(put: Result<(), ReportFault>) -> Result<(), StreamsFault>
 /// A direction and responses of which nothing came, no other connections, and a buffer.
 fn take_memory<A: Allocator + Clone>(
     alloc: A,
+    given: StatementTypes<A>,
     asked: u64,
 ) -> Result<(Direction<A>, Responses<A>, OtherConnections<A>, Vec<u8, A>), AllocError>
     ensures direction { IfOk result (λ p. p.0 ≡ begun rules true false) }
-    ensures responses { IfOk result (λ p. p.1 ≡ new_responses asked (new_keeping STATEMENTS EXECUTES)) }
+    ensures responses { IfOk result (λ p. p.1 ≡ new_responses given asked (new_keeping STATEMENTS EXECUTES)) }
     ensures others { IfOk result (λ p. p.2 ≡ no_connections) }
     ensures buffer { IfOk result (λ p. 128 ≤ vec_len p.3) }
 {
-    let responses = Responses::new(alloc.clone()?, asked)?;
+    let responses = Responses::new(alloc.clone()?, asked, given)?;
     let direction = Direction::new(alloc.clone()?, LIMITS, true);
     let others = OtherConnections::new(alloc.clone()?)?;
     let buffer = vec![in alloc; 0; ROOM]?;

@@ -10,7 +10,7 @@ use std::alloc::{AllocError, Global};
 const MOST_DIGITS: usize = 128;
 
 /// The bytes of an id, of which each is two hexadecimal digits, after 0x or nothing: 1 to 64 of them.
-pub(crate) fn id_of(alloc: Global, text: &str) -> Result<Option<Vec<u8>>, AllocError>
+pub fn id_of(alloc: Global, text: &str) -> Result<Option<Vec<u8>>, AllocError>
     ensures { IfOk result (λ id. option_map (λ bytes. bytes.items) id ≡ id_of text.now) }
 {
     let digits = digits_of(text.as_bytes());

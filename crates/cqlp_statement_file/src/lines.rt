@@ -1,8 +1,7 @@
-//! The lines of a file with statements.
+//! The lines of a file with objects.
 
 use crate::fault::StatementsFault;
-use crate::statement::add_statement;
-use crate::texts::StatementTexts;
+use crate::objects::{TakesObjects, take_line};
 use crate::undoubled::write_undoubled;
 use json::Scratch;
 use std::alloc::Global;
@@ -10,7 +9,7 @@ use std::alloc::Global;
 /// How many bytes a line has at most.
 const LONGEST: usize = 1 << 20;
 
-/// Takes a file piece by piece, and adds the statements of its lines.
+/// Takes a file piece by piece, and hands on the objects of its lines.
 #[derive(Drop)]
 pub(crate) struct Lines {
     alloc: Global,
@@ -21,7 +20,8 @@ pub(crate) struct Lines {
     /// A line with each pair of backslashes as one.
     plain: Vec<u8>,
     scratch: Scratch,
-    texts: StatementTexts,
+    /// Whether a line had an object.
+    has_object: bool,
 }
 
 impl Lines {
@@ -33,21 +33,29 @@ impl Lines {
             before: 0,
             plain: Vec::new(alloc),
             scratch: Scratch::new(alloc),
-            texts: StatementTexts::new(alloc),
+            has_object: false,
         }
     }
 
     /// Takes the next bytes.
-    pub(crate) fn take(&mut self, bytes: &[u8]) -> Result<(), StatementsFault> {
+    pub(crate) fn take<T: TakesObjects>(
+        &mut self,
+        bytes: &[u8],
+        objects: &mut T,
+    ) -> Result<(), StatementsFault> {
         for byte in bytes {
-            self.take_byte(*byte)?;
+            self.take_byte(*byte, objects)?;
         }
         Ok(())
     }
 
-    fn take_byte(&mut self, byte: u8) -> Result<(), StatementsFault> {
+    fn take_byte<T: TakesObjects>(
+        &mut self,
+        byte: u8,
+        objects: &mut T,
+    ) -> Result<(), StatementsFault> {
         if byte == b'\n' {
-            return self.end_line();
+            return self.end_line(objects);
         }
         if self.line.len() >= LONGEST {
             return Err(StatementsFault::TooLong {
@@ -60,21 +68,16 @@ impl Lines {
         }
     }
 
-    /// The statements, if there are some, where the file ends.
-    pub(crate) fn finish(mut self) -> Result<StatementTexts, StatementsFault> {
-        self.end_line()?;
-        let Lines {
-            alloc: _,
-            line: _,
-            before: _,
-            plain: _,
-            scratch: _,
-            texts,
-        } = self;
-        if texts.is_empty() {
-            Err(StatementsFault::NoStatement)
+    /// The file ends. A line had an object, or it is a fault.
+    pub(crate) fn finish<T: TakesObjects>(
+        &mut self,
+        objects: &mut T,
+    ) -> Result<(), StatementsFault> {
+        self.end_line(objects)?;
+        if self.has_object {
+            Ok(())
         } else {
-            Ok(texts)
+            Err(StatementsFault::NoStatement)
         }
     }
 
@@ -83,36 +86,34 @@ impl Lines {
         self.before.saturating_add(1)
     }
 
-    /// Adds the statement of the present line, if it is an object, and begins the next one.
-    fn end_line(&mut self) -> Result<(), StatementsFault> {
-        if is_object(self.line.as_slice()) && !self.add()? {
-            return Err(StatementsFault::NoObject {
-                line: self.number(),
-            });
+    /// Hands on the present line, if it is an object, and begins the next one.
+    fn end_line<T: TakesObjects>(&mut self, objects: &mut T) -> Result<(), StatementsFault> {
+        if is_object(self.line.as_slice()) {
+            if !self.hand_on(objects)? {
+                return Err(StatementsFault::NoObject {
+                    line: self.number(),
+                });
+            }
+            self.has_object = true;
         }
         self.line.clear();
         self.before = self.number();
         Ok(())
     }
 
-    /// Adds the statement of the present line, whose backslashes may be doubled. Answers whether it has one.
-    fn add(&mut self) -> Result<bool, StatementsFault> {
+    /// Hands on the present line, whose backslashes may be doubled. Answers whether it has an object, of those that a file has.
+    fn hand_on<T: TakesObjects>(&mut self, objects: &mut T) -> Result<bool, StatementsFault> {
         if write_undoubled(self.line.as_slice(), &mut self.plain)?
-            && add_statement(
+            && take_line(
                 self.alloc,
                 self.plain.as_slice(),
                 &mut self.scratch,
-                &mut self.texts,
+                objects,
             )?
         {
             return Ok(true);
         }
-        let is_one = add_statement(
-            self.alloc,
-            self.line.as_slice(),
-            &mut self.scratch,
-            &mut self.texts,
-        )?;
+        let is_one = take_line(self.alloc, self.line.as_slice(), &mut self.scratch, objects)?;
         Ok(is_one)
     }
 }

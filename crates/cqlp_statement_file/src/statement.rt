@@ -1,32 +1,17 @@
-//! A line with a statement.
+//! An object with a statement.
 
 ghost use Rattle.std.specs.Prelude.{◌≡◌, IfOk, option_map};
-ghost use Rattle.std.specs.Str.{IsUtf8};
 ghost use Rattle.json.specs.Value.{value_view};
 ghost use Rattle.cqlp_statement_file.specs.Ids.{id_of};
-ghost use Rattle.cqlp_statement_file.specs.Objects.{Adds, statement_in, statement_of, text_at, with_id};
+ghost use Rattle.cqlp_statement_file.specs.Objects.{Adds, is_of_schema, statement_of, text_at, with_id};
 
 use crate::id::id_of;
+use crate::objects::TakesObjects;
 use crate::texts::StatementTexts;
-use json::{Error, Scratch, Value};
+use json::Value;
 use std::alloc::{AllocError, Global};
 
-/// Adds the statement of a line that is an object with an id and a text. Answers whether it is one.
-pub(crate) fn add_statement(
-    alloc: Global,
-    line: &[u8],
-    scratch: &mut Scratch,
-    texts: &mut StatementTexts,
-) -> Result<bool, AllocError>
-    ensures { IsUtf8 line.now → IfOk result (λ is_one. Adds (statement_in line.now) is_one texts.old texts.new) }
-{
-    match Value::from_slice(alloc, line, scratch) {
-        Ok(object) => add_object(alloc, &object, texts),
-        Err(Error::OutOfMemory) => Err(AllocError),
-        Err(_) => Ok(false),
-    }
-}
-
+/// Adds the statement of an object with an id and a text. Answers whether it is one.
 fn add_object(
     alloc: Global,
     object: &Value<'_>,
@@ -62,8 +47,29 @@ fn add_text(
     }
 }
 
+impl TakesObjects for StatementTexts {
+    ghost use Rattle.cqlp_statement_file.specs.Objects.{TakesText};
+
+    ghost takes = { TakesText };
+
+    fn take(&mut self, alloc: Global, object: &Value<'_>) -> Result<bool, AllocError> {
+        match add_object(alloc, object, self) {
+            Ok(true) => Ok(true),
+            Ok(false) => Ok(is_of_schema(object)),
+            Err(AllocError) => Err(AllocError),
+        }
+    }
+}
+
+/// Whether an object is a row of a schema: it names a keyspace.
+fn is_of_schema(object: &Value<'_>) -> bool
+    ensures { result ≡ is_of_schema (value_view object.now) }
+{
+    text_at(object, "keyspace_name").is_some()
+}
+
 /// The text that an object has under a name.
-fn text_at<'a>(object: &Value<'a>, name: &str) -> Option<&'a str>
+pub fn text_at<'a>(object: &Value<'a>, name: &str) -> Option<&'a str>
     ensures { option_map (λ text. text.now) result ≡ text_at name.now (value_view object.now) }
 {
     match object.get(name) {

@@ -8,23 +8,33 @@ use crate::cqlp_capture_frames::{Direction, ReportFault, Transcript};
 use crate::cqlp_capture_prepared::{NewPreparedError, PreparedTypes, StatementId};
 use crate::cqlp_grammar::Event;
 use crate::cqlp_note::{Header, NoMemory, Reason};
+use crate::cqlp_statement_types::StatementTypes;
 use crate::cqlp_tcp_reassembly::{GapCause, StreamStep};
 use crate::cqlp_text::{Pen, TextWriter};
 use crate::cqlp_type::TypeTable;
 use crate::kit_std::alloc::{AllocError};
 
 /// The types of statements that were prepared on other connections, the latest of each: at most [`OTHER_STATEMENTS`], of which those go first that were
-/// prepared, or used by a page, longest ago.
+/// prepared, or used by a page, longest ago. And those of statements that were prepared before the capture, as they were given.
 pub(crate) struct OtherTypes {
     known: PreparedTypes,
+    given: StatementTypes,
     /// The id that the frame named which is read.
     id: Option<StatementId>,
 }
 
 impl OtherTypes {
-    /// The types that the last PREPARED said which named this id, if they are still known.
+    /// The types that the last PREPARED said which named this id, if they are still known, or else those that were given.
     pub(crate) fn types_of(&self, id: &StatementId) -> Option<&TypeTable> {
-        self.known.types_of(id)
+        match self.known.types_of(id) {
+            Some(types) => Some(types),
+            None => self.types_given(id),
+        }
+    }
+
+    /// The types that were given for this id.
+    fn types_given(&self, id: &StatementId) -> Option<&TypeTable> {
+        self.given.get(id.as_slice())
     }
 
     /// Says that a page has the types of this statement, if it is known.
@@ -34,11 +44,12 @@ impl OtherTypes {
 }
 
 impl OtherTypes {
-    /// Nothing is known. Memory for the list is taken here.
-    pub(crate) fn new() -> Result<Self, AllocError> {
+    /// Nothing is known but the types that are given. Memory for the list is taken here.
+    pub(crate) fn new(given: StatementTypes) -> Result<Self, AllocError> {
         match PreparedTypes::new(OTHER_STATEMENTS, 1) {
             Ok(known) => Ok(OtherTypes {
                 known,
+                given,
                 id: None,
             }),
             Err(NewPreparedError::NoMemory | NewPreparedError::BadLimit) => Err(AllocError),

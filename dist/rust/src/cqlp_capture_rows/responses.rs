@@ -12,6 +12,7 @@ use crate::cqlp_capture_frames::{
 use crate::cqlp_capture_prepared::{NewPreparedError, PreparedTypes, Requests, StatementId};
 use crate::cqlp_grammar::{Event, SinkFault};
 use crate::cqlp_note::{Header, NoMemory, Opcode, Reason};
+use crate::cqlp_statement_types::StatementTypes;
 use crate::cqlp_tcp_reassembly::{GapCause, StreamStep};
 use crate::cqlp_text::{Pen, TextWriter};
 use crate::cqlp_type::TypeTable;
@@ -39,9 +40,9 @@ pub(crate) struct Responses {
 }
 
 impl Responses {
-    /// Nothing came of the connection with this number. All memory but that of types is taken here.
-    pub(crate) fn new(number: u64) -> Result<Self, AllocError> {
-        let others = OtherTypes::new()?;
+    /// Nothing came of the connection with this number, and these types of statements are given. All memory but that of types is taken here.
+    pub(crate) fn new(number: u64, given: StatementTypes) -> Result<Self, AllocError> {
+        let others = OtherTypes::new(given)?;
         match PreparedTypes::new(STATEMENTS, EXECUTES) {
             Ok(known) => Ok(Responses {
                 number,

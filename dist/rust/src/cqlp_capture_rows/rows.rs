@@ -9,6 +9,7 @@ use crate::cqlp_capture_frames::{Direction, ReportFault};
 use crate::cqlp_capture_prepared::Requests;
 use crate::cqlp_capture_streams::{ConnectionEvent, Listener, StreamsFault};
 use crate::cqlp_note::{NoMemory, Target};
+use crate::cqlp_statement_types::StatementTypes;
 use crate::cqlp_tcp_connections::{Delivery, Way};
 use crate::cqlp_text::{Buffered, TextWriter};
 use crate::kit_std::alloc::{AllocError};
@@ -17,7 +18,8 @@ use crate::kit_std::alloc::{AllocError};
 const ROOM: usize = 65_536;
 
 /// Reads the frames of one connection of a capture, and writes the text of the pages among them, each part of it when its last byte is there.
-/// A page without metadata has the types that PREPARE said of the statement whose EXECUTE it answers: on its connection, or else on another one.
+/// A page without metadata has the types that PREPARE said of the statement whose EXECUTE it answers: on its connection, or else on another one, or else
+/// those that were given.
 ///
 /// Memory is taken in `new`; after it for the decoder of a frame, some 1.1 MiB, which is given back behind the frame; and for the types of a statement
 /// that is prepared, and of a page that answers an EXECUTE: one request each, of `LIMITS.entries` nodes. At most [`STATEMENTS`] statements are known,
@@ -49,10 +51,10 @@ impl<O: Target> Rows<O> {
 }
 
 impl<O: Target> Rows<O> {
-    /// Nothing came of the connection with this number, and its pages go to this output. Memory for all but types and frames is taken here; where it
-    /// is not granted, the output is given back.
-    pub fn new(asked: u64, out: O) -> Result<Self, O> {
-        match take_memory(asked) {
+    /// Nothing came of the connection with this number, these types of statements are given, and its pages go to this output. Memory for all but types and
+    /// frames is taken here; where it is not granted, the output is given back.
+    pub fn new(given: StatementTypes, asked: u64, out: O) -> Result<Self, O> {
+        match take_memory(given, asked) {
             Ok((direction, responses, others, buffer)) => Ok(Rows {
                 asked,
                 requests: Requests::new(false),
@@ -154,9 +156,10 @@ fn answer_of(put: Result<(), ReportFault>) -> Result<(), StreamsFault> {
 
 /// A direction and responses of which nothing came, no other connections, and a buffer.
 fn take_memory(
+    given: StatementTypes,
     asked: u64,
 ) -> Result<(Direction, Responses, OtherConnections, Vec<u8>), AllocError> {
-    let responses = Responses::new(asked)?;
+    let responses = Responses::new(asked, given)?;
     let direction = Direction::new(LIMITS, true);
     let others = OtherConnections::new()?;
     let buffer = vec![0; ROOM]?;

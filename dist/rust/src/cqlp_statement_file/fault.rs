@@ -10,12 +10,14 @@ pub enum StatementsFault {
     Read,
     /// Memory was refused.
     NoMemory,
-    /// This line, of which the first has the number 1, is no object with an id and a text.
+    /// This line, of which the first has the number 1, is no object of those that a file has.
     NoObject { line: u64 },
     /// This line is too long.
     TooLong { line: u64 },
-    /// No line has an object.
+    /// No line has a statement.
     NoStatement,
+    /// No line has a column, of whose types those of pages are made.
+    NoColumn,
 }
 
 impl From<AllocError> for StatementsFault {

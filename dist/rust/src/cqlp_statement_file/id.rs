@@ -9,7 +9,7 @@ use crate::kit_std::alloc::{AllocError};
 const MOST_DIGITS: usize = 128;
 
 /// The bytes of an id, of which each is two hexadecimal digits, after 0x or nothing: 1 to 64 of them.
-pub(crate) fn id_of(text: &str) -> Result<Option<Vec<u8>>, AllocError> {
+pub fn id_of(text: &str) -> Result<Option<Vec<u8>>, AllocError> {
     let digits = digits_of(text.as_bytes());
     if !is_id(digits) {
         return Ok(None);

@@ -4,6 +4,7 @@
 mod fault;
 mod id;
 mod lines;
+mod objects;
 mod reading;
 mod statement;
 mod text;
@@ -11,6 +12,9 @@ mod texts;
 mod undoubled;
 
 pub use fault::StatementsFault;
-pub use reading::read_statements;
+pub use id::id_of;
+pub use objects::TakesObjects;
+pub use reading::{read_objects, read_statements};
+pub use statement::text_at;
 pub use text::StatementText;
 pub use texts::StatementTexts;

@@ -1,25 +1,13 @@
 // Written by dist/erase from crates/cqlp_statement_file/src/statement.rt.
-//! A line with a statement.
+//! An object with a statement.
 
-use crate::kit_host::prelude::{KitVec};
 use crate::cqlp_statement_file::id::id_of;
+use crate::cqlp_statement_file::objects::TakesObjects;
 use crate::cqlp_statement_file::texts::StatementTexts;
-use crate::json::{Error, Scratch, Value};
+use crate::json::Value;
 use crate::kit_std::alloc::{AllocError};
 
-/// Adds the statement of a line that is an object with an id and a text. Answers whether it is one.
-pub(crate) fn add_statement(
-    line: &[u8],
-    scratch: &mut Scratch,
-    texts: &mut StatementTexts,
-) -> Result<bool, AllocError> {
-    match Value::from_slice(line, scratch) {
-        Ok(object) => add_object(&object, texts),
-        Err(Error::OutOfMemory) => Err(AllocError),
-        Err(_) => Ok(false),
-    }
-}
-
+/// Adds the statement of an object with an id and a text. Answers whether it is one.
 fn add_object(
     object: &Value<'_>,
     texts: &mut StatementTexts,
@@ -49,8 +37,23 @@ fn add_text(
     }
 }
 
+impl TakesObjects for StatementTexts {
+    fn take(&mut self, object: &Value<'_>) -> Result<bool, AllocError> {
+        match add_object(object, self) {
+            Ok(true) => Ok(true),
+            Ok(false) => Ok(is_of_schema(object)),
+            Err(AllocError) => Err(AllocError),
+        }
+    }
+}
+
+/// Whether an object is a row of a schema: it names a keyspace.
+fn is_of_schema(object: &Value<'_>) -> bool {
+    text_at(object, "keyspace_name").is_some()
+}
+
 /// The text that an object has under a name.
-fn text_at<'a>(object: &Value<'a>, name: &str) -> Option<&'a str> {
+pub fn text_at<'a>(object: &Value<'a>, name: &str) -> Option<&'a str> {
     match object.get(name) {
         Some(value) => value.as_str(),
         None => None,

@@ -8,11 +8,11 @@ use Rattle.cqlp_capture_rows.proofs.capturing.write_rows.Goals as goal
 
 pub returns-in-Err-clause-rows : goal.returns-in-Err-clause-rows
 returns-in-Err-clause-rows g c = λ xs is known known'.
-    (no_reads, (λ fits. omega arith, refl, λ fits. omega arith), (Err fault.NoMemory, (new_listening c.args.connection (written g.O.Target c.args.out), inr (refl, refl, is, refl), c.in-Err.ensures.err), c.conclude_capture-status.ensures.concludes known'))
+    (no_reads, (λ fits. omega arith, refl, λ fits. omega arith), (Err fault.NoMemory, (new_listening c.args.given c.args.connection (written g.O.Target c.args.out), inr (refl, refl, is, refl), c.in-Err.ensures.err), c.conclude_capture-status.ensures.concludes known'))
 
 pub returns-clause-rows : goal.returns-clause-rows
 returns-clause-rows g c = λ xs is known known'.
-    let first = new_listening c.args.connection (written g.O.Target c.args.out) in
+    let first = new_listening c.args.given c.args.connection (written g.O.Target c.args.out) in
     let reports = subst (λ (w : Listening). IsSome w.output.given) (sym c.in-Ok.ensures.ok) known in
     let a = c.read_capture-answer.ensures.reads xs is reports in (
       a.0,
