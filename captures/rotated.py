@@ -158,12 +158,51 @@ def followed(program, data, room):
     long = '/'.join(['', *['.'] * ((4_095 - len(path)) // 2)]) + path
     for names, said in (('', 'cqlp: cannot open a capture: standard input names none\n'), ('\n\n', 'cqlp: cannot open a capture: standard input names none\n'),
                         ('none', 'cqlp: cannot open none\n'), (f'{path}\nnone\n', 'cqlp: read fault\ncqlp: cannot open none\n'),
-                        ('\udcff\n', 'cqlp: cannot open a capture: standard input names none\n'), ('a' * 5_000, 'cqlp: cannot open a capture: standard input names none\n')):
+                        ('\udcff\n', 'cqlp: cannot open a capture: standard input names none\n'), ('a' * 5_000,
+                        'cqlp: cannot open a capture: standard input names none\n')):
         got = follow(names.encode('utf-8', 'surrogateescape'), '--summary')
         if got != (3, '', said):
             print(f'{names[:50]!r}: {got}')
     if follow(f'{long}\n'.encode())[0] != 0 or not 4_090 < len(long) < 4_096:
         print(f'a path of {len(long)} bytes')
+
+
+def growing(program, data, room):
+    """Of a folder into which captures are written, and of a file that grows, each line comes as its packet does; what else the folder has is no capture."""
+    capture = (data / 'driver.pcap').read_bytes()
+    records, folder = packets(capture), room / 'growing'
+    folder.mkdir()
+    (folder / 'notes.txt').write_text('no capture')
+    (folder / 'of.pcap').mkdir()
+    count = len(records) // 4
+    wanted = ran(program, [data / 'driver.pcap'], '--order', '0')[1]
+    for path, parts in ((folder, ['z.pcap', 'a.pcap0', 'a.pcap10', 'cap.pcapng']), (room / 'one.pcap', ['../one.pcap'] * 4)):
+        (room / 'one.pcap').write_bytes(capture[:HEADER])
+        with subprocess.Popen([program, 'capture', *PORTS, '--follow', path], stdin=subprocess.PIPE, stdout=subprocess.PIPE, stderr=subprocess.PIPE) as live:
+            early = b''
+            for at, name in enumerate(parts):
+                part = b''.join(records[at * count:(at + 1) * count if at < 3 else None])
+                with open(folder / name, 'ab') as file:
+                    file.write((b'' if name.startswith('..') else capture[:HEADER]) + part[:-9])
+                    file.flush()
+                    early += live.stdout.readline() if at else b''
+                    file.write(part[-9:])
+            live.stdin.close()
+            got = early + live.stdout.read(), live.stderr.read().decode(), live.wait()
+        more = 3 if path == folder else 0
+        if got[0].decode() != wanted or got[2] != 0 or f' MoreFiles {more}' * (more > 0) not in got[1] or not got[1].startswith('whole '):
+            print(f'{path.name}: {got}')
+    (room / 'empty').mkdir()
+    for path in ('empty', 'none'):
+        got = ran(program, [room / path], '--follow') if path == 'none' else emptied(program, room / path)
+        if got != (3, '', f'cqlp: cannot open {room / path}\n'):
+            print(f'{path}: {got}')
+
+
+def emptied(program, folder):
+    """What is said of a folder without captures, of which none comes before standard input ends."""
+    done = subprocess.run([program, 'capture', '--follow', folder], input=b'', capture_output=True, timeout=60)
+    return done.returncode, done.stdout.decode(), done.stderr.decode()
 
 
 def streams(program, data, room):

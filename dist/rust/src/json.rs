@@ -30,7 +30,7 @@ pub enum Value<'a> {
 impl<'a> Value<'a> {
     /// The one value that the bytes are, with at most 128 arrays and objects in each other.
     pub fn from_slice(bytes: &'a [u8], scratch: &'a mut Scratch) -> Result<Self, Error> {
-        let rest = str::from_utf8(bytes).map_err(|_| Error::Invalid)?;
+        let rest = std::str::from_utf8(bytes).map_err(|_| Error::Invalid)?;
         scratch.0.kit_resize(scratch.0.len().max(bytes.len()), 0).map_err(|_| Error::OutOfMemory)?;
         let mut reader = Reader { rest, room: &mut scratch.0 };
         let value = reader.value(128)?;
@@ -127,7 +127,7 @@ impl<'a> Reader<'a> {
             if rest.starts_with('"') {
                 let (text, room) = core::mem::take(&mut self.room).split_at_mut(made);
                 self.room = room;
-                return str::from_utf8(text).map_err(|_| Error::Invalid);
+                return std::str::from_utf8(text).map_err(|_| Error::Invalid);
             }
             let c = if rest.starts_with('\\') { self.escape() } else { None };
             made += c.ok_or(Error::Invalid)?.encode_utf8(&mut self.room[made..]).len();

@@ -56,11 +56,28 @@ impl OpenFile for File {
     }
 }
 
+/// The names of a folder, each with a NUL behind it: a read gives one.
+pub struct Names(std::fs::ReadDir);
+
+impl Read for Names {
+    fn read(&mut self, room: &mut [u8]) -> io::Result<usize> {
+        let Some(entry) = self.0.next() else { return Ok(0) };
+        let name = [entry?.file_name().as_encoded_bytes(), &[0]].concat();
+        room[..name.len()].copy_from_slice(&name);
+        Ok(name.len())
+    }
+}
+
 impl Files for HostRuntime {
     type File = File;
+    type Dir = Names;
 
     fn open(&self, path: &str) -> io::Result<File> {
         std::fs::File::open(path).map(File)
+    }
+
+    fn open_dir(&self, path: &str) -> io::Result<Names> {
+        std::fs::read_dir(path).map(Names)
     }
 
     fn create_new(&self, path: &str) -> io::Result<File> {

@@ -13,5 +13,5 @@ pub mod prelude {
     pub(crate) use super::rt::{said as print, said_in_line as println, said_of_fault as eprintln};
     pub(crate) use super::text::made_text as format;
     pub use super::text::{KitText, ToText};
-    pub use crate::kit_std::prelude::{Box, KitBox, KitString, KitVec, String, Vec};
+    pub use crate::kit_std::prelude::{Box, KitBox, KitNumber, KitString, KitVec, String, Vec};
 }

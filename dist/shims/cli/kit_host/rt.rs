@@ -23,8 +23,11 @@ pub trait Eprint {
 
 pub trait Files {
     type File: Read + Write + OpenFile;
+    type Dir: Read;
 
     fn open(&self, path: &str) -> io::Result<Self::File>;
+
+    fn open_dir(&self, path: &str) -> io::Result<Self::Dir>;
 
     fn create_new(&self, path: &str) -> io::Result<Self::File>;
 
