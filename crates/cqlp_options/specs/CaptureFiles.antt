@@ -21,9 +21,9 @@ pub record GoesAlone (first : List ℕ) (others : List (List ℕ)) : Type 0 wher
   pub first_alone : first ≡ codes "-" → others ≡ []
   pub no_other : All (λ file. file ≢ codes "-") others
 
--- The paths of captures come from standard input alone.
-abbrev pub FollowsInput : CaptureOptions → Type 0
-FollowsInput options = options.follow ≡ true → options.file.now ≡ codes "-"
+-- What is followed goes alone.
+abbrev pub FollowsOne : CaptureOptions → Type 0
+FollowsOne options = options.follow ≡ true → more_files options ≡ []
 
 abbrev pub IsInputAlone : CaptureOptions → Type 0
 IsInputAlone options = GoesAlone options.file.now (more_files options)

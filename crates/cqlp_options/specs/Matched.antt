@@ -1,10 +1,11 @@
 -- What a command line asks for, by its words. `rows` are what the parser found at the names of a task's options.
-use Rattle.std.specs.Prelude.{◌≡◌, ℕ, ◌^◌, ◌<◌, Bool, true, false, not, List, Option, Some, None, IfSome, IsSomeAnd, codes, option_map, unwrap_or}
+use Rattle.std.specs.Prelude.{◌≡◌, ℕ, ◌^◌, ◌<◌, Bool, true, false, not, List, Option, Some, None, IfSome, IsSomeAnd, codes, is_some, option_map, unwrap_or}
 use Rattle.std.specs.Borrow.{Bor}
 use Rattle.std.specs.Str.Parse.{IsNumeral, digits_value, without_leading_plus}
 use Rattle.clap.specs.Words.{Row, Text, all_of, first_of, one_of, subcommand_of}
 use Rattle.cqlp_note.specs.declared.opcode.Opcode.{Opcode}
 use Rattle.cqlp_text.specs.Names.{opcode_name}
+use Rattle.cqlp_pattern.specs.declared.pattern.Pattern.{Pattern}
 use Rattle.cqlp_options.specs.CaptureFiles.{all_files, summary_files}
 use Rattle.cqlp_options.specs.Ends.{NamesEnd}
 use Rattle.cqlp_options.specs.Kinds.{kind_name}
@@ -93,6 +94,10 @@ IsTime option rows (Some t) = IsSomeAnd (first_of option rows) (λ text. IsTimeO
 -- the text that is given
 abbrev pub IsText : (option : Text) → List Row → Option (Bor Text) → Type 0
 IsText option rows text = option_map (λ t. t.now) text ≡ first_of option rows
+
+-- a pattern, where a text is given
+abbrev pub IsPattern : (option : Text) → List Row → Option Pattern → Type 0
+IsPattern option rows pattern = is_some pattern ≡ is_some (first_of option rows)
 
 -- a path
 abbrev pub IsPath : (option : Text) → List Row → Text → Type 0
@@ -207,6 +212,7 @@ pub record AreExchanges (rows : List Row) (asked : ExchangeOptions) : Type 0 whe
   pub since : IsTime (codes "from") rows asked.since
   pub until : IsTime (codes "to") rows asked.until
   pub statement : IsText (codes "statement") rows asked.statement
+  pub pattern : IsPattern (codes "statement-regex") rows asked.pattern
   pub statements : IsText (codes "statements") rows asked.statements
   pub connection : IsNumber 64 (codes "connection") rows asked.connection
   pub form : IsExchangesForm rows asked.form
@@ -217,8 +223,9 @@ HasNoFolder rows = first_of (codes "streams") rows ≡ None
 
 abbrev pub IsCaptureTask : List Row → CaptureTask → Type 0
 IsCaptureTask rows (capture.Streams folder) = IsPath (codes "streams") rows folder.now
-IsCaptureTask rows (capture.Rows connection) =
+IsCaptureTask rows (capture.Rows connection statements) =
     HasNoFolder rows × IsFlag (codes "rows") rows true × IsNumber 64 (codes "connection") rows (Some connection)
+    × IsText (codes "statements") rows statements
 IsCaptureTask rows (capture.Events connection) =
     HasNoFolder rows × IsFlag (codes "rows") rows false × IsFlag (codes "events") rows true
     × IsNumber 64 (codes "connection") rows connection

@@ -68,6 +68,7 @@ capture =
     ∷ named (codes "from")
     ∷ named (codes "to")
     ∷ named (codes "statement")
+    ∷ named (codes "statement-regex")
     ∷ bound (named (codes "statements"))
     ∷ from_one (named (codes "connection"))
     ∷ bound (named (codes "streams"))

@@ -1,5 +1,6 @@
 //! Values of options that are none.
 
+use cqlp_pattern::PatternFault;
 use std::alloc::AllocError;
 
 /// What is wrong with the value of an option that the parser takes.
@@ -9,7 +10,7 @@ pub(crate) enum BadValue {
     Range,
     /// Standard input is a file among several.
     Input,
-    /// The paths of captures are to come from standard input, and FILE is another one.
+    /// Several files are to be followed.
     Follow,
     /// No request has an opcode of this name.
     Opcode,
@@ -23,6 +24,11 @@ pub(crate) enum BadValue {
     From,
     /// What is to be the latest time is none.
     To,
+    /// A pattern has a fault, at this character.
+    Pattern {
+        fault: PatternFault,
+        character: usize,
+    },
     /// What lines are to have is asked of objects or a summary.
     Lines,
     /// A summary counts by nothing of this name.
@@ -42,7 +48,7 @@ impl BadValue {
                 "invalid value '-' for '<FILE>...': it is standard input, and goes alone; a file of that name is ./-"
             }
             BadValue::Follow => {
-                "the argument '--follow' reads the paths of captures from standard input: '<FILE>...' is then -"
+                "the argument '--follow' takes one '<FILE>...': a folder of captures, one that grows, or - for paths on standard input"
             }
             BadValue::Opcode => {
                 "invalid value for '--opcode <NAME>': it is none of STARTUP, OPTIONS, QUERY, PREPARE, EXECUTE, BATCH, REGISTER and \
@@ -68,6 +74,7 @@ impl BadValue {
                 "invalid value for '--to <TIME>': it is no number of seconds, and no time in UTC such as 2026-11-29T10:15:30Z, with up to nine digits after \
                  the point"
             }
+            BadValue::Pattern { fault, .. } => fault.text(),
             BadValue::Lines => {
                 "the arguments '--utc' and '--ends' cannot be used with '--json' or '--csv', which have both, or with '--summary', which has no lines of \
                  requests"

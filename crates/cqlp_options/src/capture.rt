@@ -5,7 +5,7 @@ ghost use Rattle.clap.specs.Words.{found_of, rows_of};
 ghost use Rattle.cqlp_text.specs.Names.{opcode_name};
 ghost use Rattle.cqlp_options.specs.Matched.{AreCaptureOptions, AreExchanges, AreTexts, IsCaptureTask, IsExchangesForm, IsOpcode};
 ghost use Rattle.cqlp_options.specs.Matched.{AreLines, IsHistogramAlone, IsSummaryBy, by_name, by_word, is_literal, plain};
-ghost use Rattle.cqlp_options.specs.CaptureFiles.{FollowsInput, GoesAlone, IsInputAlone, texts_of};
+ghost use Rattle.cqlp_options.specs.CaptureFiles.{FollowsOne, GoesAlone, IsInputAlone, texts_of};
 ghost use Rattle.cqlp_options.specs.CaptureLimits.{AreWithin as AreWithinRanges};
 ghost use Rattle.cqlp_options.specs.Ports.{AreWithin, named};
 
@@ -14,9 +14,11 @@ use crate::end::{AskedEnd, NoEnd, end};
 use crate::kind::{AskedKind, kind};
 use crate::limits::CaptureLimits;
 use crate::matched::{flag, long_number, number, path};
+use crate::pattern::pattern;
 use crate::time::{AskedTime, time};
 use clap::ArgMatches;
 use cqlp_note::Opcode;
+use cqlp_pattern::Pattern;
 use std::alloc::Global;
 
 /// How many ports may be named.
@@ -260,6 +262,8 @@ pub struct ExchangeOptions<'a> {
     pub until: Option<AskedTime>,
     /// Requests alone whose statement has this text.
     pub statement: Option<&'a str>,
+    /// Requests alone whose statement has a match of this pattern.
+    pub pattern: Option<Pattern>,
     /// The path of a file with texts of statements that were prepared before.
     pub statements: Option<&'a str>,
     /// Those of the connection with this number alone; the first has the number 1.
@@ -277,6 +281,7 @@ impl<'a> ExchangeOptions<'a> {
         let node = end(matches, "node").or(Err(BadValue::Node))?;
         let since = time(matches, "from").or(Err(BadValue::From))?;
         let until = time(matches, "to").or(Err(BadValue::To))?;
+        let pattern = pattern(matches)?;
         let form = ExchangesAs::matched(matches)?;
         Ok(ExchangeOptions {
             slow: number(matches, "slow"),
@@ -288,6 +293,7 @@ impl<'a> ExchangeOptions<'a> {
             since,
             until,
             statement: path(matches, "statement"),
+            pattern,
             statements: path(matches, "statements"),
             connection: long_number(matches, "connection"),
             form,
@@ -299,14 +305,22 @@ impl<'a> ExchangeOptions<'a> {
 #[derive(Clone, Copy)]
 pub enum CaptureTask<'a> {
     /// The bytes of each direction of each connection are written to a file in the folder with this path.
-    Streams { folder: &'a str },
+    Streams {
+        folder: &'a str,
+    },
     /// Requests are written with their replies.
     Exchanges(ExchangeOptions<'a>),
     /// A line is written for each event of each frame: of the connection with this number alone, if one is named; the first has the
     /// number 1.
-    Events { connection: Option<u64> },
+    Events {
+        connection: Option<u64>,
+    },
     /// The pages of the connection with this number are written; the first has the number 1.
-    Rows { connection: u64 },
+    Rows {
+        connection: u64,
+        /// The path of a file with statements that were prepared before, and with columns of tables.
+        statements: Option<&'a str>,
+    },
 }
 
 impl<'a> CaptureTask<'a> {
@@ -320,7 +334,10 @@ impl<'a> CaptureTask<'a> {
         }
         if flag(matches, "rows") {
             let connection = connection.ok_or(BadValue::Range)?;
-            return Ok(CaptureTask::Rows { connection });
+            return Ok(CaptureTask::Rows {
+                connection,
+                statements: path(matches, "statements"),
+            });
         }
         if flag(matches, "events") {
             return Ok(CaptureTask::Events { connection });
@@ -336,7 +353,7 @@ pub struct CaptureOptions<'a> {
     pub task: CaptureTask<'a>,
     pub limits: CaptureLimits,
     pub ports: Ports,
-    /// Whether standard input has the paths of the capture's files, a line each, which are read as their lines come; `file` is `-` then.
+    /// Whether `file` goes on: `-` has the paths of the capture's files, a line each, and any other is a file that grows, or a folder of them.
     pub follow: bool,
     /// The path of the capture's first file, or `-` for standard input, which goes alone.
     pub file: &'a str,
@@ -353,12 +370,12 @@ impl<'a> CaptureOptions<'a> {
     ) -> Result<CaptureOptions<'a>, NoLine>
         ensures within { IfOk result (λ options. AreWithin options.ports × AreWithinRanges options.limits) }
         ensures alone { IfOk result IsInputAlone }
-        ensures follows { IfOk result FollowsInput }
+        ensures follows { IfOk result FollowsOne }
         ensures words { IfOk result (AreCaptureOptions (rows_of (found_of matches.now))) }
     {
         let (file, others) = files_of(matches)?;
         let follow = flag(matches, "follow");
-        if follow && file != "-" {
+        if follow && !others.is_empty() {
             return Err(NoLine::BadValue(BadValue::Follow));
         }
         let task = CaptureTask::matched(matches)?;

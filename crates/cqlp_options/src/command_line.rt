@@ -99,16 +99,32 @@ fn parsed<'a, S: AsStr>(alloc: Global, words: &'a [S]) -> Result<CommandLine<'a>
     let matches = program.try_get_matches_from_mut(words)?;
     match line_of(alloc, &matches) {
         Ok(line) => Ok(line),
-        Err(NoLine::BadValue(bad)) => Err(bad_value(&mut program, bad)),
+        Err(NoLine::BadValue(bad)) => Err(bad_value(alloc, &mut program, bad)),
         Err(NoLine::NoMemory) => Err(Error::from(AllocError)),
     }
 }
 
-fn bad_value(program: &mut Command<'_>, bad: BadValue) -> Error {
-    match program.error(ErrorKind::ValueValidation, bad.text()) {
+fn bad_value(alloc: Global, program: &mut Command<'_>, bad: BadValue) -> Error {
+    match mistake_of(alloc, program, bad) {
         Ok(error) => error,
         Err(error) => Error::from(error),
     }
+}
+
+/// The mistake that a bad value is; of a pattern the place of its fault too.
+fn mistake_of(
+    alloc: Global,
+    program: &mut Command<'_>,
+    bad: BadValue,
+) -> Result<Error, AllocError> {
+    let BadValue::Pattern { fault, character } = bad else {
+        return program.error(ErrorKind::ValueValidation, bad.text());
+    };
+    let fault = fault.text();
+    let text = format!(in alloc;
+        "invalid value for '--statement-regex <REGEX>': at character {character}, {fault}"
+    )?;
+    program.error(ErrorKind::ValueValidation, &text)
 }
 
 /// What the words of a command line were matched to, if its values are good.

@@ -13,6 +13,7 @@ mod matched;
 mod merge;
 mod no_task;
 mod options;
+mod pattern;
 mod program;
 mod reported;
 mod time;

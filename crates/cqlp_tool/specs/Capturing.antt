@@ -23,6 +23,7 @@ use Rattle.cqlp_capture_streams.specs.Captures.{AreCounted, ReadCounts, ReadsMad
 use Rattle.cqlp_capture_streams.specs.Streams.{WritesStreamsBy}
 use Rattle.cqlp_capture_streams.specs.declared.buffering.Buffering.{Buffering}
 use Rattle.cqlp_statement_file.specs.Texts.{Texts}
+use Rattle.cqlp_statement_types.specs.Types.{Given}
 use Rattle.cqlp_capture_exchanges.specs.declared.filter.EndFilter.{EndFilter}
 use Rattle.cqlp_capture_exchanges.specs.declared.filter.Moment.{Moment}
 use Rattle.cqlp_capture_exchanges.specs.declared.filter.Moment.TheVariants as moment
@@ -48,12 +49,13 @@ use Rattle.cqlp_capture_rows.specs.Capturing.{WritesRows}
 use Rattle.cqlp_tool.specs.Faults.{ReportsFault}
 use Rattle.cqlp_tool.specs.Limits.{exchange_limits_of, streams_limits_of}
 
--- the file with texts of statements that a task asks for
+-- the file with statements that a task asks for
 abbrev pub statements_of : CaptureTask → Option (Bor (List ℕ))
 statements_of (task.Exchanges asked) = asked.statements
+statements_of (task.Rows connection statements) = statements
 statements_of t = None
 
--- the capture is the input, and no file, and there is none with texts of statements
+-- the capture is the input, and no file, and there is none with statements
 abbrev pub IsCaptureOfInput : CaptureOptions → Type 0
 IsCaptureOfInput options = (options.file.now ≡ codes "-") × (options.follow ≡ false) × (statements_of options.task ≡ None)
 
@@ -111,6 +113,7 @@ filter_of asked =
       since = option_map moment_of asked.since;
       until = option_map moment_of asked.until;
       statement = option_map (λ text. part_of text.now) asked.statement;
+      pattern = asked.pattern;
       connection = asked.connection;
     }
 
@@ -164,23 +167,26 @@ PrintsEvents l asked ports before status after =
     (m : ReadsMade) × ReadsInput m before after
     × WritesEvents l asked ports xs m after.input.left before.out before.err status after.out after.err)
 
--- The pages of the input's connection with this number went to the output, and how it ended was reported with its status, after so many reads.
-abbrev pub PrintsRows : StreamsLimits → (asked : ℕ) → (ports : List ℕ) → (before : Streams) → (status : ℕ) → (after : Streams) → Type 0
-PrintsRows l asked ports before status after =
+-- The pages of the input's connection with this number went to the output, with these types of statements, and how it ended was reported with its
+-- status, after so many reads.
+abbrev pub PrintsRows : (given : Given) → StreamsLimits → (asked : ℕ) → (ports : List ℕ) → (before : Streams) → (status : ℕ) → (after : Streams) → Type 0
+PrintsRows given l asked ports before status after =
     IfKnown before.input before.out (λ xs. IsSome before.err.given →
     (m : ReadsMade) × ReadsInput m before after
-    × WritesRows l asked ports xs m after.input.left before.out before.err status after.out after.err)
+    × WritesRows l given asked ports xs m after.input.left before.out before.err status after.out after.err)
 
--- What a task does with a capture, the input, of nodes that listen on these ports, within these limits, where these texts of statements were given. The
--- lines of exchanges are written at once, or in blocks.
-abbrev pub DoesCaptureTaskKnowing : (given : Texts) → Buffering → CaptureLimits → CaptureTask → (ports : List ℕ) → (before : Streams) → (status : ℕ)
-    → (after : Streams) → Type 0
-DoesCaptureTaskKnowing given b l (task.Streams folder) ports before status after = SplitsCapture (streams_limits_of b l) folder.now ports before status after
-DoesCaptureTaskKnowing given b l (task.Exchanges asked) ports before status after =
-    PrintsExchanges given b (streams_limits_of b l) (exchange_limits_of l) asked ports before status after
-DoesCaptureTaskKnowing given b l (task.Events asked) ports before status after = PrintsEvents (streams_limits_of b l) asked ports before status after
-DoesCaptureTaskKnowing given b l (task.Rows asked) ports before status after = PrintsRows (streams_limits_of b l) asked ports before status after
+-- What a task does with a capture, the input, of nodes that listen on these ports, within these limits, where these texts and types of statements were
+-- given. The lines of exchanges are written at once, or in blocks.
+abbrev pub DoesCaptureTaskKnowing : (texts : Texts) → (types : Given) → Buffering → CaptureLimits → CaptureTask → (ports : List ℕ)
+    → (before : Streams) → (status : ℕ) → (after : Streams) → Type 0
+DoesCaptureTaskKnowing texts types b l (task.Streams folder) ports before status after =
+    SplitsCapture (streams_limits_of b l) folder.now ports before status after
+DoesCaptureTaskKnowing texts types b l (task.Exchanges asked) ports before status after =
+    PrintsExchanges texts b (streams_limits_of b l) (exchange_limits_of l) asked ports before status after
+DoesCaptureTaskKnowing texts types b l (task.Events asked) ports before status after = PrintsEvents (streams_limits_of b l) asked ports before status after
+DoesCaptureTaskKnowing texts types b l (task.Rows asked statements) ports before status after =
+    PrintsRows types (streams_limits_of b l) asked ports before status after
 
 -- where none were
 abbrev pub DoesCaptureTask : Buffering → CaptureLimits → CaptureTask → (ports : List ℕ) → (before : Streams) → (status : ℕ) → (after : Streams) → Type 0
-DoesCaptureTask = DoesCaptureTaskKnowing []
+DoesCaptureTask = DoesCaptureTaskKnowing [] []

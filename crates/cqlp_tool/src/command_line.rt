@@ -21,11 +21,12 @@ ghost use Rattle.cqlp_text.specs.declared.ending.Ending.{Ending};
 use crate::capture_files::{CaptureFiles, MorePaths};
 use crate::conversing::converse;
 use crate::folder::{Folder, is_folder};
+use crate::followed_capture::FollowedCapture;
 use crate::limits::{exchange_limits_of, streams_limits_of};
 use crate::marks::MARK;
 use crate::path_lines::PathLines;
 use crate::progress::Progress;
-use crate::statements::{put_no_texts, texts_for};
+use crate::statements::{Given, Gives, given_for, put_not_given};
 use cqlp_capture_events::write_events;
 use cqlp_capture_exchanges::{
     Attribute, EndFilter, ExchangeFilter, ExchangeForm, IntervalsAs, LineStyle, Moment, Naming,
@@ -44,7 +45,6 @@ use cqlp_options::{
 use cqlp_render::{TextForm, check, conclude, show, show_as};
 use cqlp_render_skip::{check_skipping, show_skipping};
 use cqlp_row_text::TablePlace;
-use cqlp_statement_file::StatementTexts;
 use cqlp_text::exit_status::{BAD_COMMAND_LINE, DONE, FAULT};
 use cqlp_text::{Ending, PagePlace, cannot_open_line, put_text};
 use std::alloc::Allocator;
@@ -161,7 +161,7 @@ fn stream<R: Files + AllocGlobal, I: Source, O: Target, E: Target>(
     }
 }
 
-/// Reads the texts of statements that are asked for, and does the task with a capture.
+/// Reads what is asked for of statements that were prepared before, and does the task with a capture.
 fn capture<R: Files + AllocGlobal, I: CaptureInput, O: Target, E: Target, N: Target + Drop>(
     rt: &R,
     options: CaptureOptions<'_>,
@@ -179,21 +179,21 @@ fn capture<R: Files + AllocGlobal, I: CaptureInput, O: Target, E: Target, N: Tar
     ensures untouched { options.entry.file.now ≢ codes "-" → input.new ≡ input.old }
     ensures quiet { options.entry.file.now ≡ codes "-" → notes.new ≡ notes.old }
 {
-    match texts_for(rt, asked_statements(options.task)) {
+    match given_for(rt, asked_statements(options.task), gives(options.task)) {
         Ok(given) => capture_knowing(rt, options, given, input, out, err, notes),
-        Err(no_texts) => {
-            let (status, err) = put_no_texts(no_texts, err);
+        Err(not_given) => {
+            let (status, err) = put_not_given(not_given, err);
             (status, out, err)
         }
     }
 }
 
-/// Opens the files of a capture, and does the task with them, where these texts of statements are known. Of a regular file lines are written in blocks; of
+/// Opens the files of a capture, and does the task with them, where this is known of statements. Of a regular file lines are written in blocks; of
 /// standard input and any other file, as a pipe, at once. Where files are long, `notes` gets how much of them was read.
 fn capture_knowing<'a, R, I: CaptureInput, O: Target, E: Target, N: Target + Drop>(
     rt: &'a R,
     options: CaptureOptions<'a>,
-    given: StatementTexts,
+    given: Given,
     input: &mut I,
     out: O,
     err: E,
@@ -205,7 +205,7 @@ where
     requires limits { AreWithinRanges options.limits }
     ensures captures { let view = streams I.Source O.Target E.Target in
         options.entry.file.now ≡ codes "-" → options.entry.follow ≡ false
-        → DoesCaptureTaskKnowing given Line options.entry.limits options.entry.task (named options.entry.ports)
+        → DoesCaptureTaskKnowing given.texts given.types Line options.entry.limits options.entry.task (named options.entry.ports)
         (view input.old out err) result.0 (view input.new result.1 result.2) }
     ensures status { IsStatusOfTask result.0 }
     ensures untouched { options.entry.file.now ≢ codes "-" → input.new ≡ input.old }
@@ -217,6 +217,9 @@ where
     }
     if options.file == "-" && options.follow {
         return follow(rt, &options, given, input, out, err);
+    }
+    if options.follow {
+        return follow_growing(rt, &options, given, out, err);
     }
     if options.file == "-" {
         return read_capture(rt, &options, given, Buffering::Line, input, out, err);
@@ -246,7 +249,7 @@ where
 fn follow<'a, R: Files + AllocGlobal, I: CaptureInput, O: Target, E: Target>(
     rt: &'a R,
     options: &CaptureOptions<'_>,
-    given: StatementTexts,
+    given: Given,
     input: &'a mut I,
     out: O,
     err: E,
@@ -277,6 +280,34 @@ fn follow<'a, R: Files + AllocGlobal, I: CaptureInput, O: Target, E: Target>(
     match files.missing() {
         Some(path) => {
             let (status, err) = cannot_open(or_none_named(path), err);
+            (status, out, err)
+        }
+        None => (status, out, err),
+    }
+}
+
+/// Does the task with a file as it grows, or with the captures of a folder, in the order in which they are written, until standard input is a pipe that
+/// has ended.
+fn follow_growing<'a, R: Files + AllocGlobal, O: Target, E: Target>(
+    rt: &'a R,
+    options: &CaptureOptions<'a>,
+    given: Given,
+    out: O,
+    err: E,
+) -> (u8, O, E)
+    requires ports { AreWithin options.now.ports }
+    requires limits { AreWithinRanges options.now.limits }
+    ensures status { IsStatusOfTask result.0 }
+{
+    let Ok(Some(mut capture)) = FollowedCapture::open(rt, options.file) else {
+        let (status, err) = cannot_open(options.file, err);
+        return (status, out, err);
+    };
+    let line = Buffering::Line;
+    let (status, out, err) = read_capture(rt, options, given, line, &mut capture, out, err);
+    match capture.missing() {
+        Some(path) => {
+            let (status, err) = cannot_open(path, err);
             (status, out, err)
         }
         None => (status, out, err),
@@ -368,13 +399,24 @@ fn missing_folder<'a, R: Files>(rt: &R, asked: CaptureTask<'a>) -> Option<&'a st
     }
 }
 
-/// The file with texts of statements that a task with a capture asks for.
+/// The file with statements that a task with a capture asks for.
 fn asked_statements<'a>(asked: CaptureTask<'a>) -> Option<&'a str>
     ensures { result ≡ statements_of asked.entry }
 {
     match asked {
         CaptureTask::Exchanges(asked) => asked.statements,
-        CaptureTask::Streams { .. } | CaptureTask::Events { .. } | CaptureTask::Rows { .. } => None,
+        CaptureTask::Rows { statements, .. } => statements,
+        CaptureTask::Streams { .. } | CaptureTask::Events { .. } => None,
+    }
+}
+
+/// What a task with a capture takes of a file with statements.
+fn gives(asked: CaptureTask<'_>) -> Gives {
+    match asked {
+        CaptureTask::Rows { .. } => Gives::Types,
+        CaptureTask::Exchanges(_) | CaptureTask::Streams { .. } | CaptureTask::Events { .. } => {
+            Gives::Texts
+        }
     }
 }
 
@@ -405,11 +447,11 @@ fn regular_length(metadata: io::Result<Metadata>) -> Option<u64> {
     }
 }
 
-/// Does the task with a capture, whose folder is there if it asks for one, where these texts of statements are known.
+/// Does the task with a capture, whose folder is there if it asks for one, where this is known of statements.
 fn read_capture<R: Files + AllocGlobal, I: CaptureInput, O: Target, E: Target>(
     rt: &R,
     options: &CaptureOptions<'_>,
-    given: StatementTexts,
+    given: Given,
     buffering: Buffering,
     input: &mut I,
     out: O,
@@ -418,10 +460,11 @@ fn read_capture<R: Files + AllocGlobal, I: CaptureInput, O: Target, E: Target>(
     requires ports { AreWithin options.now.ports }
     requires limits { AreWithinRanges options.now.limits }
     ensures task { let view = streams I.Source O.Target E.Target in
-        DoesCaptureTaskKnowing given buffering options.now.limits options.now.task (named options.now.ports)
+        DoesCaptureTaskKnowing given.texts given.types buffering options.now.limits options.now.task (named options.now.ports)
         (view input.old out err) result.0 (view input.new result.1 result.2) }
     ensures status { IsStatusOfTask result.0 }
 {
+    let Given { texts, types } = given;
     let ports = options.ports.as_slice();
     let limits = streams_limits_of(&options.limits, buffering);
     match options.task {
@@ -434,7 +477,7 @@ fn read_capture<R: Files + AllocGlobal, I: CaptureInput, O: Target, E: Target>(
                 limits,
                 exchange_limits_of(&options.limits),
                 ports,
-                given,
+                texts,
                 filter_of(asked),
                 form_of(asked.form),
                 buffering,
@@ -446,8 +489,17 @@ fn read_capture<R: Files + AllocGlobal, I: CaptureInput, O: Target, E: Target>(
         CaptureTask::Events { connection } => {
             write_events(rt.alloc(), limits, ports, connection, input, out, err)
         }
-        CaptureTask::Rows { connection } => {
-            write_rows(rt.alloc(), limits, ports, connection, input, out, err)
+        CaptureTask::Rows { connection, .. } => {
+            write_rows(
+                rt.alloc(),
+                limits,
+                ports,
+                types,
+                connection,
+                input,
+                out,
+                err,
+            )
         }
     }
 }
@@ -486,6 +538,7 @@ fn filter_of(asked: ExchangeOptions<'_>) -> ExchangeFilter
         since,
         until,
         statement,
+        pattern,
         statements: _,
         connection,
         form: _,
@@ -500,6 +553,7 @@ fn filter_of(asked: ExchangeOptions<'_>) -> ExchangeFilter
         since: moment_of(since),
         until: moment_of(until),
         statement: statement.map(StatementPart::of),
+        pattern,
         connection,
     }
 }

@@ -2,15 +2,18 @@
 #![tactic(auto)]
 
 mod capture_files;
+mod capture_folder;
 mod command_line;
 mod connection;
 mod conversing;
 mod folder;
+mod followed_capture;
 pub mod laws;
 mod limits;
 mod line;
 mod marks;
 mod path_lines;
+mod pause;
 mod progress;
 mod statements;
 

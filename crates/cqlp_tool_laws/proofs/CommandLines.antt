@@ -218,10 +218,10 @@ module _ (before : Streams) (status status' : ℕ) (after after' : Streams) wher
       let y = b known.bytes known.left known.out known.err in
       let one = events_once (streams_limits_of by l) asked ports known.bytes before.out before.err x.0 y.0 after.input.left after'.input.left status status' after.out after'.out after.err after'.err x.2 alike.0 y.2 alike.1 in
       (one.0, inl one.1, inl one.2)
-  capture_once by l (capture_task.Rows asked) ports known a b alike =
+  capture_once by l (capture_task.Rows asked statements) ports known a b alike =
       let x = a known.bytes known.left known.out known.err in
       let y = b known.bytes known.left known.out known.err in
-      let one = rows_once (streams_limits_of by l) asked ports known.bytes before.out before.err x.0 y.0 after.input.left after'.input.left status status' after.out after'.out after.err after'.err x.2 alike.0 y.2 alike.1 in
+      let one = rows_once (streams_limits_of by l) [] asked ports known.bytes before.out before.err x.0 y.0 after.input.left after'.input.left status status' after.out after'.out after.err after'.err x.2 alike.0 y.2 alike.1 in
       (one.0, inl one.1, inl one.2)
 
 -- ---- a fault of it
@@ -238,9 +238,9 @@ captures_caused b l (capture_task.Exchanges asked) ports before after known does
 captures_caused b l (capture_task.Events asked) ports before after known does =
     let x = does known.bytes known.left known.out known.err in
     caused before after x.0 x.1 (events_causes (streams_limits_of b l) asked ports known.bytes x.0 after.input.left before.out before.err after.out after.err x.2)
-captures_caused b l (capture_task.Rows asked) ports before after known does =
+captures_caused b l (capture_task.Rows asked statements) ports before after known does =
     let x = does known.bytes known.left known.out known.err in
-    caused before after x.0 x.1 (rows_causes (streams_limits_of b l) asked ports known.bytes x.0 after.input.left before.out before.err after.out after.err x.2)
+    caused before after x.0 x.1 (rows_causes (streams_limits_of b l) [] asked ports known.bytes x.0 after.input.left before.out before.err after.out after.err x.2)
 
 -- ---- a command line
 

@@ -214,7 +214,7 @@ module _ (before : Streams) (status status' : ℕ) (after after' : Streams) wher
   IsCaptureMetAlike b l (capture_task.Streams folder) ports does does' = AreSplitAlike (streams_limits_of b l) folder.now ports does does'
   IsCaptureMetAlike b l (capture_task.Exchanges asked) ports does does' = (status ≢ 3) × (status' ≢ 3)
   IsCaptureMetAlike b l (capture_task.Events asked) ports does does' = (status ≢ 3) × (status' ≢ 3)
-  IsCaptureMetAlike b l (capture_task.Rows asked) ports does does' = (status ≢ 3) × (status' ≢ 3)
+  IsCaptureMetAlike b l (capture_task.Rows asked statements) ports does does' = (status ≢ 3) × (status' ≢ 3)
 
 -- A read of the input failed, or the output, or the error output; or the line that was written says that there was no memory, or too
 -- many turns: all reads were made that may be, or there was no end to what is reported.
@@ -231,7 +231,7 @@ abbrev pub IsCaused : CaptureTask → (before after : Streams) → Type 0
 IsCaused (capture_task.Streams folder) before after = Unit {0}
 IsCaused (capture_task.Exchanges asked) before after = HasFault before after
 IsCaused (capture_task.Events asked) before after = HasFault before after
-IsCaused (capture_task.Rows asked) before after = HasFault before after
+IsCaused (capture_task.Rows asked statements) before after = HasFault before after
 
 -- The status of a task with a capture is that of a fault only where one came.
 abbrev pub CaptureFaultsHaveCauses : Type 0

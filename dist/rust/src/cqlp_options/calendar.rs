@@ -1,6 +1,7 @@
 // Written by dist/erase from crates/cqlp_options/src/calendar.rt.
 //! Times of the calendar, in UTC, as `2026-11-29T10:15:30.25Z`. ISO 8601, and RFC 3339, section 5.6.
 
+use crate::kit_host::prelude::{KitNumber};
 use crate::cqlp_options::time::{is_digit, with_places};
 use crate::jiff_core::civil::Date;
 
@@ -47,7 +48,7 @@ fn days_until(date: Date) -> Option<u64> {
     if days < 0 {
         return None;
     }
-    Some(u64::from(days.cast_unsigned()))
+    Some(u64::from(days.kit_other_sign()))
 }
 
 /// The seconds from midnight on, of a time of the day as `T10:15:30`.

@@ -7,9 +7,11 @@ use crate::cqlp_options::end::{AskedEnd, end};
 use crate::cqlp_options::kind::{AskedKind, kind};
 use crate::cqlp_options::limits::CaptureLimits;
 use crate::cqlp_options::matched::{flag, long_number, number, path};
+use crate::cqlp_options::pattern::pattern;
 use crate::cqlp_options::time::{AskedTime, time};
 use crate::clap::ArgMatches;
 use crate::cqlp_note::Opcode;
+use crate::cqlp_pattern::Pattern;
 
 /// How many ports may be named.
 pub const MOST_PORTS: usize = 16;
@@ -230,6 +232,8 @@ pub struct ExchangeOptions<'a> {
     pub until: Option<AskedTime>,
     /// Requests alone whose statement has this text.
     pub statement: Option<&'a str>,
+    /// Requests alone whose statement has a match of this pattern.
+    pub pattern: Option<Pattern>,
     /// The path of a file with texts of statements that were prepared before.
     pub statements: Option<&'a str>,
     /// Those of the connection with this number alone; the first has the number 1.
@@ -245,6 +249,7 @@ impl<'a> ExchangeOptions<'a> {
         let node = end(matches, "node").or(Err(BadValue::Node))?;
         let since = time(matches, "from").or(Err(BadValue::From))?;
         let until = time(matches, "to").or(Err(BadValue::To))?;
+        let pattern = pattern(matches)?;
         let form = ExchangesAs::matched(matches)?;
         Ok(ExchangeOptions {
             slow: number(matches, "slow"),
@@ -256,6 +261,7 @@ impl<'a> ExchangeOptions<'a> {
             since,
             until,
             statement: path(matches, "statement"),
+            pattern,
             statements: path(matches, "statements"),
             connection: long_number(matches, "connection"),
             form,
@@ -267,14 +273,22 @@ impl<'a> ExchangeOptions<'a> {
 #[derive(Clone, Copy)]
 pub enum CaptureTask<'a> {
     /// The bytes of each direction of each connection are written to a file in the folder with this path.
-    Streams { folder: &'a str },
+    Streams {
+        folder: &'a str,
+    },
     /// Requests are written with their replies.
     Exchanges(ExchangeOptions<'a>),
     /// A line is written for each event of each frame: of the connection with this number alone, if one is named; the first has the
     /// number 1.
-    Events { connection: Option<u64> },
+    Events {
+        connection: Option<u64>,
+    },
     /// The pages of the connection with this number are written; the first has the number 1.
-    Rows { connection: u64 },
+    Rows {
+        connection: u64,
+        /// The path of a file with statements that were prepared before, and with columns of tables.
+        statements: Option<&'a str>,
+    },
 }
 
 impl<'a> CaptureTask<'a> {
@@ -286,7 +300,10 @@ impl<'a> CaptureTask<'a> {
         }
         if flag(matches, "rows") {
             let connection = connection.ok_or(BadValue::Range)?;
-            return Ok(CaptureTask::Rows { connection });
+            return Ok(CaptureTask::Rows {
+                connection,
+                statements: path(matches, "statements"),
+            });
         }
         if flag(matches, "events") {
             return Ok(CaptureTask::Events { connection });
@@ -301,7 +318,7 @@ pub struct CaptureOptions<'a> {
     pub task: CaptureTask<'a>,
     pub limits: CaptureLimits,
     pub ports: Ports,
-    /// Whether standard input has the paths of the capture's files, a line each, which are read as their lines come; `file` is `-` then.
+    /// Whether `file` goes on: `-` has the paths of the capture's files, a line each, and any other is a file that grows, or a folder of them.
     pub follow: bool,
     /// The path of the capture's first file, or `-` for standard input, which goes alone.
     pub file: &'a str,
@@ -317,7 +334,7 @@ impl<'a> CaptureOptions<'a> {
     ) -> Result<CaptureOptions<'a>, NoLine> {
         let (file, others) = files_of(matches)?;
         let follow = flag(matches, "follow");
-        if follow && file != "-" {
+        if follow && !others.is_empty() {
             return Err(NoLine::BadValue(BadValue::Follow));
         }
         let task = CaptureTask::matched(matches)?;

@@ -1,6 +1,7 @@
 // Written by dist/erase from crates/cqlp_options/src/command_line.rt.
 //! Command lines.
 
+use crate::kit_host::prelude::{format};
 use crate::cqlp_options::bad_value::{BadValue, NoLine};
 use crate::cqlp_options::capture::CaptureOptions;
 use crate::cqlp_options::matched::short_number;
@@ -86,10 +87,25 @@ fn parsed<'a, S: AsStr>(words: &'a [S]) -> Result<CommandLine<'a>, Error> {
 }
 
 fn bad_value(program: &mut Command<'_>, bad: BadValue) -> Error {
-    match program.error(ErrorKind::ValueValidation, bad.text()) {
+    match mistake_of(program, bad) {
         Ok(error) => error,
         Err(error) => Error::from(error),
     }
+}
+
+/// The mistake that a bad value is; of a pattern the place of its fault too.
+fn mistake_of(
+    program: &mut Command<'_>,
+    bad: BadValue,
+) -> Result<Error, AllocError> {
+    let BadValue::Pattern { fault, character } = bad else {
+        return program.error(ErrorKind::ValueValidation, bad.text());
+    };
+    let fault = fault.text();
+    let text = format!(
+        "invalid value for '--statement-regex <REGEX>': at character {character}, {fault}"
+    )?;
+    program.error(ErrorKind::ValueValidation, &text)
 }
 
 /// What the words of a command line were matched to, if its values are good.

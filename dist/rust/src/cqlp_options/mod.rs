@@ -12,6 +12,7 @@ mod matched;
 mod merge;
 mod no_task;
 mod options;
+mod pattern;
 mod program;
 mod reported;
 mod time;

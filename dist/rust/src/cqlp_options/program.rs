@@ -326,7 +326,7 @@ const ALL: LimitRange = LimitRange {
 
 /// What `capture` takes. The help of a limit has its range and what the number is where it is not given, and docs/check compares both
 /// with `CaptureLimits`.
-const CAPTURE: [Word; 32] = [
+const CAPTURE: [Word; 33] = [
     Word {
         name: "file",
         form: Form::Files,
@@ -337,7 +337,7 @@ const CAPTURE: [Word; 32] = [
     Word {
         name: "follow",
         form: Form::Flag,
-        help: "Standard input has the paths of captures, a line each, and each is read as its line comes: tcpdump -G 60 -w 'cap-%s.pcap' -z echo writes them",
+        help: "FILE goes on: a folder, whose captures are read as they are written, or one that grows; with - paths come on standard input, a line each",
         with: &[],
         without: &[],
     },
@@ -412,12 +412,20 @@ const CAPTURE: [Word; 32] = [
         without: &[],
     },
     Word {
+        name: "statement-regex",
+        form: Form::Text("REGEX"),
+        help: "Only requests whose statement has a match of this regular expression, as far as the lines show it; ^ and $ are the begin and end \
+            of its text, and (?i) in front takes letters of both cases",
+        with: &[],
+        without: &[],
+    },
+    Word {
         name: "statements",
         form: Form::Text("FILE"),
-        help: "A file with the texts of statements that were prepared before the capture, for lines, --json, --csv and --summary, as cqlsh -e \"SELECT JSON \
-            prepared_id, query_string FROM system.prepared_statements\" writes it",
+        help: "A file with the statements that were prepared before the capture, as cqlsh -e \"SELECT JSON * FROM system.prepared_statements\" writes it; for \
+            --rows with the columns of their tables too, from system_schema.columns, and user-defined types, from system_schema.types",
         with: &[],
-        without: &["streams", "events", "rows"],
+        without: &["streams", "events"],
     },
     Word {
         name: "connection",
@@ -441,6 +449,7 @@ const CAPTURE: [Word; 32] = [
             "from",
             "to",
             "statement",
+            "statement-regex",
             "connection",
             "open",
             "text",
@@ -535,6 +544,7 @@ const CAPTURE: [Word; 32] = [
             "from",
             "to",
             "statement",
+            "statement-regex",
             "json",
             "summary",
             "streams",
@@ -557,6 +567,7 @@ const CAPTURE: [Word; 32] = [
             "from",
             "to",
             "statement",
+            "statement-regex",
             "json",
             "summary",
             "events",

@@ -5,11 +5,12 @@ use crate::kit_host::prelude::{Vec};
 use crate::cqlp_tool::capture_files::{CaptureFiles, MorePaths};
 use crate::cqlp_tool::conversing::converse;
 use crate::cqlp_tool::folder::{Folder, is_folder};
+use crate::cqlp_tool::followed_capture::FollowedCapture;
 use crate::cqlp_tool::limits::{exchange_limits_of, streams_limits_of};
 use crate::cqlp_tool::marks::MARK;
 use crate::cqlp_tool::path_lines::PathLines;
 use crate::cqlp_tool::progress::Progress;
-use crate::cqlp_tool::statements::{put_no_texts, texts_for};
+use crate::cqlp_tool::statements::{Given, Gives, given_for, put_not_given};
 use crate::cqlp_capture_events::write_events;
 use crate::cqlp_capture_exchanges::{
     Attribute, EndFilter, ExchangeFilter, ExchangeForm, IntervalsAs, LineStyle, Moment, Naming,
@@ -28,7 +29,6 @@ use crate::cqlp_options::{
 use crate::cqlp_render::{TextForm, check, conclude, show, show_as};
 use crate::cqlp_render_skip::{check_skipping, show_skipping};
 use crate::cqlp_row_text::TablePlace;
-use crate::cqlp_statement_file::StatementTexts;
 use crate::cqlp_text::exit_status::{BAD_COMMAND_LINE, DONE, FAULT};
 use crate::cqlp_text::{Ending, PagePlace, cannot_open_line, put_text};
 use crate::kit_host::fs::{self, File, Metadata, OpenFile};
@@ -119,7 +119,7 @@ fn stream<R: Files, I: Source, O: Target, E: Target>(
     }
 }
 
-/// Reads the texts of statements that are asked for, and does the task with a capture.
+/// Reads what is asked for of statements that were prepared before, and does the task with a capture.
 fn capture<R: Files, I: CaptureInput, O: Target, E: Target, N: Target>(
     rt: &R,
     options: CaptureOptions<'_>,
@@ -128,21 +128,21 @@ fn capture<R: Files, I: CaptureInput, O: Target, E: Target, N: Target>(
     err: E,
     notes: &mut Option<N>,
 ) -> (u8, O, E) {
-    match texts_for(rt, asked_statements(options.task)) {
+    match given_for(rt, asked_statements(options.task), gives(options.task)) {
         Ok(given) => capture_knowing(rt, options, given, input, out, err, notes),
-        Err(no_texts) => {
-            let (status, err) = put_no_texts(no_texts, err);
+        Err(not_given) => {
+            let (status, err) = put_not_given(not_given, err);
             (status, out, err)
         }
     }
 }
 
-/// Opens the files of a capture, and does the task with them, where these texts of statements are known. Of a regular file lines are written in blocks; of
+/// Opens the files of a capture, and does the task with them, where this is known of statements. Of a regular file lines are written in blocks; of
 /// standard input and any other file, as a pipe, at once. Where files are long, `notes` gets how much of them was read.
 fn capture_knowing<'a, R, I: CaptureInput, O: Target, E: Target, N: Target>(
     rt: &'a R,
     options: CaptureOptions<'a>,
-    given: StatementTexts,
+    given: Given,
     input: &mut I,
     out: O,
     err: E,
@@ -157,6 +157,9 @@ where
     }
     if options.file == "-" && options.follow {
         return follow(rt, &options, given, input, out, err);
+    }
+    if options.follow {
+        return follow_growing(rt, &options, given, out, err);
     }
     if options.file == "-" {
         return read_capture(rt, &options, given, Buffering::Line, input, out, err);
@@ -186,7 +189,7 @@ where
 fn follow<'a, R: Files, I: CaptureInput, O: Target, E: Target>(
     rt: &'a R,
     options: &CaptureOptions<'_>,
-    given: StatementTexts,
+    given: Given,
     input: &'a mut I,
     out: O,
     err: E,
@@ -213,6 +216,30 @@ fn follow<'a, R: Files, I: CaptureInput, O: Target, E: Target>(
     match files.missing() {
         Some(path) => {
             let (status, err) = cannot_open(or_none_named(path), err);
+            (status, out, err)
+        }
+        None => (status, out, err),
+    }
+}
+
+/// Does the task with a file as it grows, or with the captures of a folder, in the order in which they are written, until standard input is a pipe that
+/// has ended.
+fn follow_growing<'a, R: Files, O: Target, E: Target>(
+    rt: &'a R,
+    options: &CaptureOptions<'a>,
+    given: Given,
+    out: O,
+    err: E,
+) -> (u8, O, E) {
+    let Ok(Some(mut capture)) = FollowedCapture::open(rt, options.file) else {
+        let (status, err) = cannot_open(options.file, err);
+        return (status, out, err);
+    };
+    let line = Buffering::Line;
+    let (status, out, err) = read_capture(rt, options, given, line, &mut capture, out, err);
+    match capture.missing() {
+        Some(path) => {
+            let (status, err) = cannot_open(path, err);
             (status, out, err)
         }
         None => (status, out, err),
@@ -298,11 +325,22 @@ fn missing_folder<'a, R: Files>(rt: &R, asked: CaptureTask<'a>) -> Option<&'a st
     }
 }
 
-/// The file with texts of statements that a task with a capture asks for.
+/// The file with statements that a task with a capture asks for.
 fn asked_statements<'a>(asked: CaptureTask<'a>) -> Option<&'a str> {
     match asked {
         CaptureTask::Exchanges(asked) => asked.statements,
-        CaptureTask::Streams { .. } | CaptureTask::Events { .. } | CaptureTask::Rows { .. } => None,
+        CaptureTask::Rows { statements, .. } => statements,
+        CaptureTask::Streams { .. } | CaptureTask::Events { .. } => None,
+    }
+}
+
+/// What a task with a capture takes of a file with statements.
+fn gives(asked: CaptureTask<'_>) -> Gives {
+    match asked {
+        CaptureTask::Rows { .. } => Gives::Types,
+        CaptureTask::Exchanges(_) | CaptureTask::Streams { .. } | CaptureTask::Events { .. } => {
+            Gives::Texts
+        }
     }
 }
 
@@ -331,16 +369,17 @@ fn regular_length(metadata: io::Result<Metadata>) -> Option<u64> {
     }
 }
 
-/// Does the task with a capture, whose folder is there if it asks for one, where these texts of statements are known.
+/// Does the task with a capture, whose folder is there if it asks for one, where this is known of statements.
 fn read_capture<R: Files, I: CaptureInput, O: Target, E: Target>(
     rt: &R,
     options: &CaptureOptions<'_>,
-    given: StatementTexts,
+    given: Given,
     buffering: Buffering,
     input: &mut I,
     out: O,
     err: E,
 ) -> (u8, O, E) {
+    let Given { texts, types } = given;
     let ports = options.ports.as_slice();
     let limits = streams_limits_of(&options.limits, buffering);
     match options.task {
@@ -352,7 +391,7 @@ fn read_capture<R: Files, I: CaptureInput, O: Target, E: Target>(
                 limits,
                 exchange_limits_of(&options.limits),
                 ports,
-                given,
+                texts,
                 filter_of(asked),
                 form_of(asked.form),
                 buffering,
@@ -364,8 +403,16 @@ fn read_capture<R: Files, I: CaptureInput, O: Target, E: Target>(
         CaptureTask::Events { connection } => {
             write_events(limits, ports, connection, input, out, err)
         }
-        CaptureTask::Rows { connection } => {
-            write_rows(limits, ports, connection, input, out, err)
+        CaptureTask::Rows { connection, .. } => {
+            write_rows(
+                limits,
+                ports,
+                types,
+                connection,
+                input,
+                out,
+                err,
+            )
         }
     }
 }
@@ -397,6 +444,7 @@ fn filter_of(asked: ExchangeOptions<'_>) -> ExchangeFilter {
         since,
         until,
         statement,
+        pattern,
         statements: _,
         connection,
         form: _,
@@ -411,6 +459,7 @@ fn filter_of(asked: ExchangeOptions<'_>) -> ExchangeFilter {
         since: moment_of(since),
         until: moment_of(until),
         statement: statement.map(StatementPart::of),
+        pattern,
         connection,
     }
 }

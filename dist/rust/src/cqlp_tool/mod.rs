@@ -2,14 +2,17 @@
 //! What the program cqlp does; and the progress that it reports while it reads a long file.
 
 mod capture_files;
+mod capture_folder;
 mod command_line;
 mod connection;
 mod conversing;
 mod folder;
+mod followed_capture;
 mod limits;
 mod line;
 mod marks;
 mod path_lines;
+mod pause;
 mod progress;
 mod statements;
 

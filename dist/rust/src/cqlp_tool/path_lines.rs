@@ -37,7 +37,7 @@ impl<'a, S: Source> PathLines<'a, S> {
     /// The path that was read last; nothing where it is no text.
     pub fn path(&self) -> &str {
         let bytes = self.room.get(self.start..self.end).unwrap_or(&[]);
-        str::from_utf8(bytes).unwrap_or("")
+        core::str::from_utf8(bytes).unwrap_or("")
     }
 
     /// Waits for the next path. False at the end of the source.
