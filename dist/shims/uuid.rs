@@ -21,6 +21,6 @@ impl Uuid {
             room[at + len] = b'-';
             at += len + 1;
         }
-        str::from_utf8_mut(&mut room[..36]).expect("digits and hyphens")
+        core::str::from_utf8_mut(&mut room[..36]).expect("digits and hyphens")
     }
 }

@@ -167,7 +167,7 @@ fn cell(numbers: &mut Numbers, kind: usize) -> Vec<u8> {
     };
     let letters: Vec<u8> = "zwölf Boxkämpfer jagen Viktor quer über den großen Sylter Deich, und noch mehr".bytes().take(length).collect();
     let mut content: Vec<u8> = match kind {
-        Kind::Varchar => str::from_utf8(&letters).map_or(vec![b'x'; length], |text| text.as_bytes().to_vec()),
+        Kind::Varchar => std::str::from_utf8(&letters).map_or(vec![b'x'; length], |text| text.as_bytes().to_vec()),
         Kind::Ascii => vec![b'a' + numbers.below(26) as u8; length],
         _ => (0..length).map(|_| numbers.below(256) as u8).collect(),
     };

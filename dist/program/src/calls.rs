@@ -10,6 +10,7 @@ use crate::cqlp_message::Frame;
 use crate::cqlp_note::{Asked, Limits, NoMemory, OfStd, Partial};
 use crate::cqlp_options::{CommandLine, NoTask};
 use crate::cqlp_round_trip::{RoundTripError, write_and_read};
+use crate::cqlp_statement_types::StatementTypes;
 use crate::cqlp_type::{TypeReader, TypeTable};
 use crate::heap::{measured, refusing};
 
@@ -119,7 +120,7 @@ fn rows_without_memory() {
     let file = prepared_elsewhere();
     let written = |first, last| {
         let (mut input, out, err) = (OfStd::new(&file[..]), OfStd::new(Vec::with_capacity(1_000)), OfStd::new(Vec::with_capacity(1_000)));
-        let write = || write_rows(StreamsLimits::DEFAULT, &[9042], 1, &mut input, out, err);
+        let write = || write_rows(StreamsLimits::DEFAULT, &[9042], StatementTypes::new(), 1, &mut input, out, err);
         let (((status, out, err), requests), _, kept) = measured(|| refusing(first, last, write));
         let text = |output: OfStd<Vec<u8>>| String::from_utf8(output.into_inner()).unwrap();
         assert_eq!(kept, 0);

@@ -24,6 +24,8 @@ mod json_texts;
 #[cfg(test)]
 mod mutated;
 #[cfg(test)]
+mod patterns;
+#[cfg(test)]
 mod watched;
 
 use kit_host::prelude::HostRuntime;

@@ -11,6 +11,7 @@ use crate::cqlp_note::{IoFault, OfStd, Source};
 use crate::cqlp_capture_streams::{Buffering, CaptureInput, FileFault, StreamFile, StreamFiles, StreamsLimits, write_streams};
 use crate::heap::measured;
 use crate::cqlp_statement_file::StatementTexts;
+use crate::cqlp_statement_types::StatementTypes;
 use std::collections::HashMap;
 
 /// As the program has them where none are given.
@@ -144,7 +145,7 @@ fn events(file: &[u8], most: usize, ports: &[u16]) -> Outcome {
 
 /// The pages on the connection with this number.
 fn rows(file: &[u8], most: usize, ports: &[u16], connection: u64) -> Outcome {
-    outcome(file, most, 64, |pieces, out, err| write_rows(StreamsLimits::DEFAULT, ports, connection, pieces, out, err))
+    outcome(file, most, 64, |pieces, out, err| write_rows(StreamsLimits::DEFAULT, ports, StatementTypes::new(), connection, pieces, out, err))
 }
 
 /// The lines say how long the files are, and the last line how long all of them are.

@@ -25,12 +25,12 @@ fn columns() -> Vec<Spec> {
 
 fn row(n: u32) -> (i32, i64, String, Option<bool>, Vec<String>) {
     let tags = vec!["new".to_string(), format!("t{}", n % 10)];
-    (n as i32, i64::from(n) * 3, format!("name of {n}"), (!n.is_multiple_of(7)).then_some(n.is_multiple_of(2)), tags)
+    (n as i32, i64::from(n) * 3, format!("name of {n}"), (n % 7 != 0).then_some(n % 2 == 0), tags)
 }
 
 /// How many rows a statement or its id asks for.
 fn rows_of(text: &[u8]) -> Option<u32> {
-    str::from_utf8(text).ok()?.strip_prefix("ROWS ")?.parse().ok()
+    std::str::from_utf8(text).ok()?.strip_prefix("ROWS ")?.parse().ok()
 }
 
 /// What a prepared statement is bound to.

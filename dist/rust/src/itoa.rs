@@ -12,7 +12,7 @@ impl Buffer {
     pub fn format(&mut self, number: impl Display) -> &str {
         self.1 = 0;
         write!(self, "{number}").expect("no number has more than 40 bytes");
-        str::from_utf8(&self.0[..self.1]).expect("digits")
+        core::str::from_utf8(&self.0[..self.1]).expect("digits")
     }
 }
 

@@ -419,6 +419,9 @@ mod cqlp_capture_prepared;
 mod cqlp_packet_order;
 #[cfg(feature = "cli")]
 #[rustfmt::skip]
+mod cqlp_pattern;
+#[cfg(feature = "cli")]
+#[rustfmt::skip]
 mod cqlp_render_skip;
 #[cfg(feature = "cli")]
 #[rustfmt::skip]
@@ -429,6 +432,9 @@ mod cqlp_capture_summary;
 #[cfg(feature = "cli")]
 #[rustfmt::skip]
 mod cqlp_statement_file;
+#[cfg(feature = "cli")]
+#[rustfmt::skip]
+mod cqlp_statement_types;
 #[cfg(feature = "cli")]
 #[rustfmt::skip]
 mod cqlp_bound_values;
@@ -455,18 +461,35 @@ mod strsim;
 pub fn run_command() -> i32 {
     use kit_host::rt::{HostRuntime, Status};
     libc::keep_broken_pipes();
-    if reads_live_capture() {
-        libc::ignore_interrupts();
+    match ending() {
+        Ending::OfPipe => libc::ignore_interrupts(),
+        Ending::ByInterrupt => libc::end_at_interrupts(),
+        Ending::Usual => {}
     }
     cqlp::main(HostRuntime).status()
 }
 
-/// `cqlp capture .. -` behind a pipe: `^C` ends what writes the capture, and with it the capture, so that the last lines, the summary and the verdict come.
+/// How the command ends at `^C`.
 #[cfg(feature = "cli")]
-fn reads_live_capture() -> bool {
+enum Ending {
+    Usual,
+    /// `cqlp capture .. -` behind a pipe: `^C` ends what writes the capture, and with it the capture, so that the last lines, the summary and the verdict come.
+    OfPipe,
+    /// `cqlp capture .. --follow PATH`: `^C` ends what is followed, and these come.
+    ByInterrupt,
+}
+
+#[cfg(feature = "cli")]
+fn ending() -> Ending {
     use std::io::IsTerminal;
-    let mut words = std::env::args_os().skip(1);
-    words.next().is_some_and(|word| word == "capture") && words.last().is_some_and(|word| word == "-") && !std::io::stdin().is_terminal()
+    let words: Vec<_> = std::env::args_os().skip(1).collect();
+    match &words[..] {
+        [first, .., last] if first == "capture" && last == "-" && !std::io::stdin().is_terminal() => Ending::OfPipe,
+        [first, others @ .., last] if first == "capture" && last != "-" && others.iter().any(|word| word == "--follow") => {
+            Ending::ByInterrupt
+        }
+        _ => Ending::Usual,
+    }
 }
 
 pub use conversions::OtherValue;

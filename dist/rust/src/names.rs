@@ -182,7 +182,7 @@ macro_rules! as_ints {
         $(
             impl From<$name> for i32 {
                 fn from(one: $name) -> i32 {
-                    u32::from(one).cast_signed()
+                    u32::from(one) as i32
                 }
             }
 
@@ -190,7 +190,7 @@ macro_rules! as_ints {
                 type Error = UnknownName;
 
                 fn try_from(number: i32) -> Result<Self, UnknownName> {
-                    number.cast_unsigned().try_into()
+                    (number as u32).try_into()
                 }
             }
         )*

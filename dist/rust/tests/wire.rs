@@ -220,9 +220,7 @@ fn ready_server() -> ServerSide {
     let requests = bytes_of(&[Frame::plain(0, Message::startup()), Frame::plain(0, Message::query("x", one()))]);
     for byte in requests {
         server.inbox().push(&[byte]).unwrap();
-        if let Some(request) = server.hear().unwrap()
-            && request.message == Message::startup()
-        {
+        if server.hear().unwrap().is_some_and(|request| request.message == Message::startup()) {
             server.answer(&Frame::plain(0, Message::Ready)).unwrap();
         }
     }

@@ -8,6 +8,6 @@ pub fn bytes_of(words: &str) -> Vec<u8> {
 
 fn repeated(word: &str) -> Vec<u8> {
     let (times, digits) = word.split_once('x').unwrap_or(("1", word));
-    let once = digits.as_bytes().chunks(2).map(|pair| u8::from_str_radix(str::from_utf8(pair).unwrap(), 16).unwrap());
+    let once = digits.as_bytes().chunks(2).map(|pair| u8::from_str_radix(std::str::from_utf8(pair).unwrap(), 16).unwrap());
     once.collect::<Vec<_>>().repeat(times.parse().unwrap())
 }

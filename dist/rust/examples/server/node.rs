@@ -74,7 +74,7 @@ impl Node {
     }
 
     fn execute(&self, id: Vec<u8>, params: &QueryParams, stream: i16) -> Result<Reply<'_>, Problem> {
-        let statement = str::from_utf8(&id).ok().and_then(|text| Statement::parse(text, &self.tables).ok());
+        let statement = std::str::from_utf8(&id).ok().and_then(|text| Statement::parse(text, &self.tables).ok());
         let Some(Statement::Select(select)) = statement else {
             return Err(Problem::unprepared(id));
         };

@@ -45,10 +45,10 @@ pub(crate) fn is_end(bytes: &[u8]) -> bool {
 
 /// The longest front of bytes that is UTF-8.
 pub(crate) fn text_front(bytes: &[u8]) -> &str {
-    match str::from_utf8(bytes) {
+    match core::str::from_utf8(bytes) {
         Ok(text) => text,
         // SAFETY: the bytes up to there are UTF-8.
-        Err(error) => unsafe { str::from_utf8_unchecked(&bytes[..error.valid_up_to()]) },
+        Err(error) => unsafe { core::str::from_utf8_unchecked(&bytes[..error.valid_up_to()]) },
     }
 }
 

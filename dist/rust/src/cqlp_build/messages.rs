@@ -1,6 +1,7 @@
 // Written by dist/erase from crates/cqlp_build/src/messages.rt.
 //! Messages.
 
+use crate::kit_std::prelude::{KitNumber};
 use crate::cqlp_build::held::{FrameEvents, has_flag};
 use crate::cqlp_build::lists::Wanted;
 use crate::cqlp_grammar::result_kind;
@@ -87,7 +88,7 @@ impl FrameEvents {
     fn error(&mut self) -> Message {
         let code = self.int(Field::ErrorCode);
         let message = self.text(Field::Message);
-        let extra = self.extra(code.cast_unsigned());
+        let extra = self.extra(code.kit_other_sign());
         Message::Error {
             code,
             message,
@@ -108,7 +109,7 @@ impl FrameEvents {
     /// Takes a result.
     fn result(&mut self) -> Message {
         let kind = self.int(Field::ResultKind);
-        match kind.cast_unsigned() {
+        match kind.kit_other_sign() {
             result_kind::VOID => Message::Void,
             result_kind::SET_KEYSPACE => Message::SetKeyspace(self.text(Field::Keyspace)),
             result_kind::SCHEMA_CHANGE => Message::Change(self.change()),

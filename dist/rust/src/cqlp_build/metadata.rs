@@ -1,7 +1,7 @@
 // Written by dist/erase from crates/cqlp_build/src/metadata.rt.
 //! Metadata, and prepared statements.
 
-use crate::kit_std::prelude::{String, Vec};
+use crate::kit_std::prelude::{KitNumber, String, Vec};
 use crate::cqlp_build::held::FrameEvents;
 use crate::cqlp_build::lists::{FromEvents, Wanted};
 use crate::cqlp_grammar::has;
@@ -66,7 +66,7 @@ impl FrameEvents {
     pub fn metadata(&mut self) -> Metadata {
         let flags = self.int(Field::MetaFlags);
         let columns = self.count(Field::Columns);
-        let bits = flags.cast_unsigned();
+        let bits = flags.kit_other_sign();
         let paging = self.paging_if(has(bits, 0x02));
         let (table, specs) = self.columns_if(bits, columns);
         Metadata {
@@ -93,7 +93,7 @@ impl FrameEvents {
         let flags = self.int(Field::MetaFlags);
         let columns = self.count(Field::Columns);
         let keys = self.keys();
-        let (table, specs) = self.columns(flags.cast_unsigned(), columns);
+        let (table, specs) = self.columns(flags.kit_other_sign(), columns);
         let result = self.metadata();
         Prepared {
             id,

@@ -1,6 +1,7 @@
 // Written by dist/erase from crates/cqlp_cell/src/number.rt.
 //! Lengths and counts out of pieces.
 
+use crate::kit_std::prelude::{KitNumber};
 use crate::cqlp_note::{FieldAdvance, FieldOutline, Notation, Partial, Prim};
 
 /// What a piece of input makes of an \[int\].
@@ -68,7 +69,7 @@ fn begin(partial: &mut Partial, at: u64, end: u64, input: &[u8]) {
 #[cfg_attr(not(feature = "cli"), inline)]
 fn number_in(partial: &Partial, input: &[u8], item: FieldOutline) -> u32 {
     match partial.lend(input, item) {
-        Prim::Int(number) => number.cast_unsigned(),
+        Prim::Int(number) => number.kit_other_sign(),
         _ => unreachable!(),
     }
 }

@@ -1,7 +1,7 @@
 // Written by dist/erase from crates/cqlp_grammar/src/following.rt.
 //! What follows a header, and what follows a field.
 
-use crate::kit_std::prelude::{KitVec};
+use crate::kit_std::prelude::{KitNumber, KitVec};
 use crate::cqlp_grammar::grammar::{Group, Role};
 use crate::cqlp_grammar::productions::{
     Expected, Want, body_fields, counted, error_fields, event_fields, plain, result_fields,
@@ -158,7 +158,7 @@ pub fn number(value: Prim<'_>) -> u32 {
         Prim::Byte(number) => number.into(),
         Prim::Short(number) => number.into(),
         Prim::Count(number) => number,
-        Prim::Int(number) => number.cast_unsigned(),
+        Prim::Int(number) => number.kit_other_sign(),
         _ => 0,
     }
 }

@@ -17,10 +17,10 @@ impl Slot {
     /// One group fewer, where there are several.
     #[inline(always)]
     fn count_down(&mut self) {
-        if let Slot::Many(_, left) = self
-            && *left > 1
-        {
-            *left -= 1;
+        if let Slot::Many(_, left) = self {
+            if *left > 1 {
+                *left -= 1;
+            }
         }
     }
 }

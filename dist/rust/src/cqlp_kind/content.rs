@@ -67,7 +67,7 @@ pub(crate) fn make_scalar(kind: Kind, bytes: &[u8]) -> Scalar<'_> {
     match kind {
         Kind::Custom => Scalar::Custom(bytes),
         // The bytes are text, which `accepts` found out.
-        Kind::Ascii => Scalar::Ascii(unsafe { str::from_utf8_unchecked(bytes) }),
+        Kind::Ascii => Scalar::Ascii(unsafe { core::str::from_utf8_unchecked(bytes) }),
         Kind::Bigint => Scalar::Bigint(i64::from_be_bytes(read_array(bytes))),
         Kind::Blob => Scalar::Blob(bytes),
         Kind::Boolean => Scalar::Boolean(bytes[0] != 0),
@@ -82,7 +82,7 @@ pub(crate) fn make_scalar(kind: Kind, bytes: &[u8]) -> Scalar<'_> {
         Kind::Timestamp => Scalar::Timestamp(i64::from_be_bytes(read_array(bytes))),
         Kind::Uuid => Scalar::Uuid(read_array(bytes)),
         // So are these.
-        Kind::Varchar => Scalar::Varchar(unsafe { str::from_utf8_unchecked(bytes) }),
+        Kind::Varchar => Scalar::Varchar(unsafe { core::str::from_utf8_unchecked(bytes) }),
         Kind::Varint => Scalar::Varint(bytes),
         Kind::Timeuuid => Scalar::Timeuuid(read_array(bytes)),
         Kind::Inet => Scalar::Inet(address(bytes)),

@@ -1,7 +1,7 @@
 // Written by dist/erase from crates/cqlp_message/src/agreement.rt.
 //! Whether flags, codes and names agree with the parts that they announce.
 
-use crate::kit_std::prelude::{String};
+use crate::kit_std::prelude::{KitNumber, String};
 use crate::cqlp_message::frame::Frame;
 use crate::cqlp_message::message::Message;
 use crate::cqlp_message::request::{OwnedBound, QueryParams};
@@ -141,12 +141,12 @@ fn each_agrees(own: bool, specs: &[Spec]) -> bool {
 impl Metadata {
     /// Whether the parts are those of the flags.
     fn agrees(&self) -> bool {
-        same(has(self.flags.cast_unsigned(), 0x02), self.paging.is_some()) && self.columns_agree()
+        same(has(self.flags.kit_other_sign(), 0x02), self.paging.is_some()) && self.columns_agree()
     }
 
     /// Whether the columns are described where the flags say so.
     fn columns_agree(&self) -> bool {
-        let flags = self.flags.cast_unsigned();
+        let flags = self.flags.kit_other_sign();
         match &self.specs {
             Some(specs) => {
                 !has(flags, 0x04) && specs_agree(flags, self.columns, &self.table, specs)
@@ -159,7 +159,7 @@ impl Metadata {
 impl Prepared {
     /// Whether the parts are those of the flags, in its own metadata and in those of its pages.
     fn agrees(&self) -> bool {
-        let flags = self.flags.cast_unsigned();
+        let flags = self.flags.kit_other_sign();
         specs_agree(flags, self.columns, &self.table, &self.specs) && self.result.agrees()
     }
 }
@@ -210,11 +210,11 @@ impl Message {
                 timestamp,
                 ..
             } => batch_agrees(*flags, *serial, *timestamp),
-            Message::Error { code, extra, .. } => extra.agrees(code.cast_unsigned()),
+            Message::Error { code, extra, .. } => extra.agrees(code.kit_other_sign()),
             Message::Rows(page) => page.meta.agrees(),
             Message::Prepared(statement) => statement.agrees(),
             Message::Change(change) => change.agrees(),
-            Message::UnknownResult(kind) => is_no_result(kind.cast_unsigned()),
+            Message::UnknownResult(kind) => is_no_result(kind.kit_other_sign()),
             Message::Event { event, detail } => detail.agrees(event.as_str()),
             _ => true,
         }

@@ -1,7 +1,7 @@
 // Written by dist/erase from crates/cqlp_message/src/version_error.rt.
 //! What a server answers to a request of another version of the protocol.
 
-use crate::kit_std::prelude::{format};
+use crate::kit_std::prelude::{KitNumber, format};
 use crate::cqlp_message::frame::Frame;
 use crate::cqlp_message::message::Message;
 use crate::cqlp_message::response::ErrorExtra;
@@ -37,7 +37,7 @@ impl Frame {
 /// The stream id of a header of this version.
 fn stream_under(version: u8, header: &[u8; 9]) -> i16 {
     match version {
-        1 | 2 => i16::from(header[2].cast_signed()),
+        1 | 2 => i16::from(header[2].kit_other_sign()),
         _ => i16::from_be_bytes([header[2], header[3]]),
     }
 }

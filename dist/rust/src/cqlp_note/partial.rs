@@ -366,7 +366,7 @@ impl ContentForm {
     pub(crate) fn prim<'a>(self, bytes: &'a [u8]) -> Primitive<'a> {
         match self {
             // The bytes are text, which `accepts` found out.
-            ContentForm::Text => Primitive::Text(unsafe { str::from_utf8_unchecked(bytes) }),
+            ContentForm::Text => Primitive::Text(unsafe { core::str::from_utf8_unchecked(bytes) }),
             ContentForm::Bytes => Primitive::Bytes(Some(bytes)),
             ContentForm::Bound => Primitive::Bound(BoundValue::Bytes(bytes)),
         }

@@ -10,7 +10,7 @@ pub fn is_text(bytes: &[u8]) -> bool {
 /// The same, a character at a time.
 #[inline(never)]
 fn is_wide_text(bytes: &[u8]) -> bool {
-    match str::from_utf8(bytes) {
+    match core::str::from_utf8(bytes) {
         Ok(_) => true,
         Err(_) => false,
     }

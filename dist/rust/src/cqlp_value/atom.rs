@@ -1,6 +1,7 @@
 // Written by dist/erase from crates/cqlp_value/src/atom.rt.
 //! Scalars that a program owns: their kinds, and the bytes of their contents.
 
+use crate::kit_std::prelude::{KitNumber};
 use crate::cqlp_value::fitting::is;
 use crate::cqlp_value::value::Atom;
 use crate::cqlp_kind::content::{DAY, allows};
@@ -67,18 +68,18 @@ impl Atom {
             Atom::Bigint(number)
             | Atom::Counter(number)
             | Atom::Timestamp(number)
-            | Atom::Time(number) => Content::Eight(number.cast_unsigned()),
+            | Atom::Time(number) => Content::Eight(number.kit_other_sign()),
             Atom::Boolean(value) => Content::One(u8::from(*value)),
             Atom::Decimal { scale, unscaled } => Content::Decimal(scale.to_be_bytes(), unscaled),
             Atom::Double(bytes) => Content::Lent(bytes),
             Atom::Float(bytes) => Content::Lent(bytes),
-            Atom::Int(number) => Content::Four(number.cast_unsigned()),
+            Atom::Int(number) => Content::Four(number.kit_other_sign()),
             Atom::Uuid(bytes) | Atom::Timeuuid(bytes) => Content::Lent(bytes),
             Atom::Inet(Address::V4(bytes)) => Content::Lent(bytes),
             Atom::Inet(Address::V6(bytes)) => Content::Lent(bytes),
             Atom::Date(days) => Content::Four(*days),
-            Atom::Smallint(number) => Content::Two(number.cast_unsigned()),
-            Atom::Tinyint(number) => Content::One(number.cast_unsigned()),
+            Atom::Smallint(number) => Content::Two(number.kit_other_sign()),
+            Atom::Tinyint(number) => Content::One(number.kit_other_sign()),
         }
     }
 
@@ -152,7 +153,7 @@ impl Atom {
                 Address::V4(bytes) => may_be(Kind::Inet, *bytes),
                 Address::V6(bytes) => may_be(Kind::Inet, *bytes),
             },
-            Atom::Time(number) => number.cast_unsigned() < DAY,
+            Atom::Time(number) => number.kit_other_sign() < DAY,
             _ => true,
         }
     }

@@ -51,7 +51,7 @@ impl AnyHeader {
     pub fn read(bytes: &[u8]) -> Option<AnyHeader> {
         let first = *bytes.first()?;
         let (stream, [opcode, a, b, c, d]) = match (Self::size_of(first), bytes) {
-            (8, &[_, _, id, ref rest @ ..]) => (i16::from(id.cast_signed()), *rest.first_chunk()?),
+            (8, &[_, _, id, ref rest @ ..]) => (i16::from(id as i8), *rest.first_chunk()?),
             (9, &[_, _, high, low, ref rest @ ..]) => (i16::from_be_bytes([high, low]), *rest.first_chunk()?),
             _ => return None,
         };
