@@ -353,6 +353,23 @@ def histogram_of(objects):
     return lines + [f"unanswered {numbers[2]}"] * (numbers[2] > 0)
 
 
+# The types of values, as readers infer them: of numbers with a point and without, texts, and a name, or the number of what has none.
+REAL, WHOLE, FLAG, TEXT, NAMED = {Decimal}, {int}, {bool}, {str}, {str, int}
+TYPES = {
+    "told": TEXT, "time": REAL, "utc": TEXT, "client": TEXT, "node": TEXT, "connection": WHOLE, "protocol": TEXT, "version": WHOLE, "stream": WHOLE,
+    "request": TEXT, "request_bytes": WHOLE, "request_is_whole": FLAG, "request_is_compressed": FLAG, "statements": WHOLE, "statement": TEXT, "id": TEXT,
+    "statement_is_whole": FLAG, "values": {list}, "values_are_whole": FLAG, "consistency": NAMED, "page_size": WHOLE, "has_paging_state": FLAG,
+    "response": TEXT, "response_bytes": WHOLE, "response_is_whole": FLAG, "response_is_compressed": FLAG, "result": NAMED, "error": NAMED, "message": TEXT,
+    "message_is_whole": FLAG, "details": {dict}, "rows": WHOLE, "columns": WHOLE, "has_more_pages": FLAG, "warnings": WHOLE, "tracing_id": TEXT, "took": REAL,
+    "connection_end": TEXT,
+}
+
+
+def untyped(of):
+    """The members of an object whose value is of another type than that of their key."""
+    return {key: value for key, value in of.items() if value is not None and type(value) not in TYPES.get(key, ())}
+
+
 def read_objects(texts):
     objects = [json.loads(text, parse_float=Decimal) for text in texts]
     return {of["name"]: of for of in objects}
@@ -374,6 +391,8 @@ def main(file, *command):
     for text, of in zip(lines, objects):
         if differs(text, of):
             print(f"{text}\n{line(of)}")
+    for of in filter(untyped, objects):
+        print(f"of other types: {untyped(of)}")
     moments = set(map(first_moment, objects))
     connections = {of["connection"] for of in objects}
     if len(moments) > 1 or len({(of["connection"], of["client"], of["node"]) for of in objects}) != len(connections):

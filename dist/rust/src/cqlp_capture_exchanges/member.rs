@@ -134,10 +134,22 @@ pub(crate) fn put_members<P: Pen>(
 }
 
 /// Takes a value.
+#[inline(always)]
 pub(crate) fn put_value<P: Pen>(
     writer: &mut TextWriter<P>,
     value: Value<'_>,
 ) -> Result<(), SinkFault> {
+    match value {
+        Value::Null => writer.put(b"null"),
+        Value::Flag(true) => writer.put(b"true"),
+        Value::Flag(false) => writer.put(b"false"),
+        _ => put_any_value(writer, value),
+    }
+}
+
+/// The same, out of line: most values are null or a flag.
+#[inline(never)]
+fn put_any_value<P: Pen>(writer: &mut TextWriter<P>, value: Value<'_>) -> Result<(), SinkFault> {
     match value {
         Value::Null => writer.put(b"null"),
         Value::Flag(flag) => writer.put_str(boolean_text(flag)),
