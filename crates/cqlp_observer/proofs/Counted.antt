@@ -159,11 +159,11 @@ within_from room w c o k long little =
 
 -- A side keeps no text that it did not keep before, but where there is room.
 abbrev Keeps : (room text : ℕ) → (before after : Bool) → Type 0
-Keeps room text before after = after ≡ true → (before ≡ true) ⊎ (nat_le 512 (room - text) ≡ true)
+Keeps room text before after = after ≡ true → (before ≡ true) ⊎ (nat_le 832 (room - text) ≡ true)
 
 -- the room that a side's text takes, before and after
 abbrev taken_text : Bool → ℕ
-taken_text keeping = if keeping then 512 else 0
+taken_text keeping = if keeping then 832 else 0
 
 recounted_is : (room text others : ℕ) (before after : Bool) → Keeps room text before after → text ≡ others + taken_text before → (recounted room text before after ≡ others + taken_text after) × (others + taken_text after ≤ max room (others + taken_text before))
 recounted_is room text others true true keeps is = (is, omega arith)
@@ -171,7 +171,7 @@ recounted_is room text others true false keeps is = (omega (arith, is), omega ar
 recounted_is room text others false false keeps is = (is, omega arith)
 recounted_is room text others false true keeps is = elim (keeps refl) [
   | inl before ↦ absurd (cc before)
-  | inr fits ↦ let within = leb-true 512 (room - text) fits in rw fits (omega (arith, is), omega (arith, is, within))
+  | inr fits ↦ let within = leb-true 832 (room - text) fits in rw fits (omega (arith, is), omega (arith, is, within))
 ]
 
 pub record Changes (room : WatchRoom) (w c : Watched) : Type 0 where

@@ -1,6 +1,7 @@
 pub mod Messages
 pub mod Records
 pub mod Keeping
+pub mod Announcements
 pub mod KeptTexts
 pub mod Heads
 pub mod Directions

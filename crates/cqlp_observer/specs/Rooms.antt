@@ -15,7 +15,7 @@ text_of w = sum_by (λ m. cost_of m.kept) (values_of w)
 
 -- and of the messages that pass
 abbrev pub passing_text : Speaker → ℕ
-passing_text s = if is_keeping s then 512 else 0
+passing_text s = if is_keeping s then 832 else 0
 
 abbrev pub all_text : Watched → ℕ
 all_text w = text_of w.waiting + passing_text w.requests + passing_text w.responses

@@ -59,13 +59,13 @@ abbrev pub is_keeping_on : (responses : Bool) → Watched → Bool
 is_keeping_on responses w = side.is_keeping (side_of responses w)
 
 abbrev pub has_text_room : WatchRoom → Watched → Bool
-has_text_room room w = nat_le 512 (room.text - w.text)
+has_text_room room w = nat_le 832 (room.text - w.text)
 
 -- how much room the texts take, where a side kept one before or not, and keeps one after or not
 abbrev pub recounted : (room text : ℕ) → (before after : Bool) → ℕ
 recounted room text before after =
-    if before then (if after then text else text - 512)
-    else if after && nat_le 512 (room - text) then text + 512
+    if before then (if after then text else text - 832)
+    else if after && nat_le 832 (room - text) then text + 832
     else text
 
 abbrev pub with_recount : (responses : Bool) → WatchRoom → (before : Bool) → Watched → Watched

@@ -6,7 +6,8 @@ pub struct WatchRoom {
     /// How many messages: where as many wait, one under a further stream id is reported alone.
     pub messages: usize,
     /// How many bytes of texts: where that of a message is too much beside the others, the message goes on with its header alone. The text of a
-    /// message that waits takes 128 bytes and its first bytes, that of one that passes in several pieces 512.
+    /// message that waits takes 128 bytes and its first bytes, and where it has warnings 64 and the first bytes before it; that of one that passes in
+    /// several pieces 832.
     pub text: usize,
 }
 

@@ -4,7 +4,7 @@ ghost use Rattle.std.specs.Prelude.{◌≡◌, ◌≤◌, ◌+◌, IfOk, IfSome,
 ghost use Rattle.cqlp_observer.specs.Directions.{IsWholeHead, passed_whole};
 
 use crate::heads::{Heads, Heard};
-use crate::kept::{Front, Kept};
+use crate::kept::{Announced, Front, Kept, announces_warnings};
 use crate::message::{Frame, Message};
 use crate::opening::Opening;
 use cqlp_note::Header;
@@ -27,6 +27,8 @@ pub(crate) struct Side<A: Allocator> {
 pub(crate) struct Present<A: Allocator> {
     /// Its first bytes.
     front: Front<A>,
+    /// Those before them, where warnings are among these.
+    announced: Announced<A>,
     /// What it says.
     reader: FactsReader,
     /// Whether none of its bytes is missing so far.
@@ -45,25 +47,42 @@ pub(crate) struct SideStep<A: Allocator> {
 }
 
 impl<A: Allocator> Model for Present<A> {
+    ghost use Rattle.cqlp_observer.specs.Announcements.{announced_of};
     ghost use Rattle.cqlp_observer.specs.Passing.{Passing, passing};
 
     ghost Value = { Passing };
 
-    ghost view = { λ p. passing p.front p.reader p.is_sound };
+    ghost view = { λ p. passing p.front (announced_of p.announced) p.reader p.is_sound };
 }
 
 impl<A: Allocator + Clone> Present<A> {
-    ghost use Rattle.cqlp_observer.specs.Passing.{begun_with, broken, kept_in, read_on};
+    ghost use Rattle.cqlp_observer.specs.Announcements.{announced_of, announced_on, none_announced};
+    ghost use Rattle.cqlp_observer.specs.Passing.{begun_with, broken, kept_in, passing, read_on};
 
     /// A message with this header, of whose body nothing came.
     #[inline(always)]
-    fn new(alloc: A, header: &Header) -> Self
-        ensures { result ≡ begun_with header.now }
+    fn new(alloc: A, header: &Header) -> Result<Self, AllocError>
+        ensures { IfOk result (λ p. p ≡ begun_with header.now) }
     {
-        Present {
+        let announced = Self::none_announced(&alloc, header)?;
+        Ok(Present {
             front: Front::new(alloc),
+            announced,
             reader: FactsReader::new(header),
             is_sound: true,
+        })
+    }
+
+    /// Of what lies before a message with this header nothing came. Takes memory where warnings are among that.
+    #[inline(always)]
+    fn none_announced(alloc: &A, header: &Header) -> Result<Announced<A>, AllocError>
+        ensures { IfOk result (λ a. announced_of a ≡ none_announced header.now) }
+    {
+        if announces_warnings(header) {
+            let none = Front::new(alloc.clone()?);
+            Ok(Some(Box::new(alloc.clone()?, none)?))
+        } else {
+            Ok(None)
         }
     }
 
@@ -76,7 +95,19 @@ impl<A: Allocator + Clone> Present<A> {
             return Ok(());
         }
         let before = self.reader.read(bytes);
+        self.announce(&bytes[..before])?;
         self.front.add(&bytes[before..])
+    }
+
+    /// Its next bytes that lie before the message proper.
+    #[inline(always)]
+    fn announce(&mut self, bytes: &[u8]) -> Result<(), AllocError>
+        ensures { IfOk result (λ _. self.new ≡ passing self.old.front (announced_on bytes.now self.old.announced) self.old.reader self.old.is_sound) }
+    {
+        match &mut self.announced {
+            Some(announced) => announced.add(bytes),
+            None => Ok(()),
+        }
     }
 
     /// Some of its bytes are missing.
@@ -93,10 +124,11 @@ impl<A: Allocator + Clone> Present<A> {
     {
         let Present {
             front,
+            announced,
             reader,
             is_sound: _,
         } = self;
-        Kept::new(alloc, front, reader.facts())
+        Kept::new(alloc, front, announced, reader.facts())
     }
 }
 
@@ -258,7 +290,7 @@ impl<A: Allocator + Clone> Side<A> {
             self.present = None;
             return Ok(SideStep::bare(used));
         }
-        let present = Present::new(self.alloc.clone()?, header);
+        let present = Present::new(self.alloc.clone()?, header)?;
         self.present = Some(Box::new(self.alloc.clone()?, present)?);
         Ok(SideStep::nothing(used))
     }
@@ -289,7 +321,7 @@ impl<A: Allocator + Clone> Side<A> {
     fn kept_of_whole(&self, header: Header, body: &[u8]) -> Result<Kept<A>, AllocError>
         ensures { IfOk result (λ k. k ≡ kept_in (read_on body.now (begun_with header))) }
     {
-        let mut present = Present::new(self.alloc.clone()?, &header);
+        let mut present = Present::new(self.alloc.clone()?, &header)?;
         present.keep(body)?;
         present.into_kept(self.alloc.clone()?)
     }

@@ -35,7 +35,7 @@ fn subject_notation(header: &Header) -> Option<Notation>
 }
 
 /// Whether some bit of these is set.
-fn has(flags: u8, bits: u8) -> bool
+pub(crate) fn has(flags: u8, bits: u8) -> bool
     ensures { result ≡ has_bit flags bits }
 {
     flags & bits > 0

@@ -1,7 +1,7 @@
 -- The message proper begins once, and what is kept of it does not depend on pieces.
 use Rattle.std.proofs.Common.{◌≡◌, ℕ, zero, suc, ◌+◌, ◌-◌, ◌<◌, ◌≤◌, ◌^◌, Bool, true, false, ◌&&◌, ◌||◌, eqb, ltb, cond, List, [], ◌∷◌, ◌++◌, length, take, drop, Option, Some, None, refl, sym, ap, ◌∙◌, inl, inr, arith}
 use Rattle.std.proofs.lemmas.Bool.{cases_lt}
-use Rattle.std.proofs.lemmas.List.{drop-append-le, drop_all}
+use Rattle.std.proofs.lemmas.List.{append-nil, drop-append-le, drop_all, take-append-le, take_all}
 use Rattle.cqlp_note.specs.declared.header.Header.{Header}
 use Rattle.cqlp_note.specs.declared.opcode.Opcode.{Opcode}
 use Rattle.cqlp_note.specs.Field.{is_negative}
@@ -27,8 +27,10 @@ use Rattle.cqlp_observer_facts.specs.Reading.{after_byte, before, begun, filled,
 use Rattle.cqlp_observer_facts.specs.Rows.{after_option, columns_due, due_of, fields_within, is_plain, names_due, paged_columns_due, rows_following, types_due}
 use Rattle.cqlp_observer_facts.specs.Types.{columns_of, innermost, with_fields, with_types}
 use Rattle.cqlp_observer_facts.proofs.Pieces.{before_pieces, read_pieces}
+use Rattle.cqlp_observer.specs.Announcements.{announced_on}
+use Rattle.cqlp_observer.specs.Keeping.{announces_warnings}
 use Rattle.cqlp_observer.specs.Passing.{passing, read_on}
-use Rattle.cqlp_observer_laws.specs.Fronts.{FrontComesLast, FrontsAreKept, front_of, kept_of}
+use Rattle.cqlp_observer_laws.specs.Fronts.{FrontComesLast, FrontsAreKept, announced_of, front_of, kept_of}
 
 -- ---- fields of the message proper, but its first one
 
@@ -236,13 +238,41 @@ joined n m b c few none = elim (cases_lt n (length b)) [
       ∙ ap (λ (k : ℕ). take 256 (drop (k + m) (b ++ c))) (sym all)
 ]
 
+take_both : (b c : List ℕ) (m : ℕ) → take (length b + m) (b ++ c) ≡ b ++ take m c
+take_both [] c m = let e : 0 + m ≡ m = omega arith in rw e refl
+take_both (x ∷ b) c m = let e : suc (length b) + m ≡ suc (length b + m) = omega arith in rw e (ap (λ (z : List ℕ). x ∷ z) (take_both b c m))
+
+-- The first bytes of one piece, and of the next only if they are all of it, are those of both.
+fronts_joined : (n m : ℕ) (b c : List ℕ) → n ≤ length b → (n < length b → m ≡ 0) → take n b ++ take m c ≡ take (n + m) (b ++ c)
+fronts_joined n m b c few none = elim (cases_lt n (length b)) [
+  | inl lt ↦
+      let zero_more : m ≡ 0 = none lt in
+      let sum : n + m ≡ n = omega (arith, zero_more) in
+      ap (λ (k : ℕ). take n b ++ take k c) zero_more ∙ append-nil (take n b) ∙ sym (take-append-le n b c few)
+      ∙ ap (λ (k : ℕ). take k (b ++ c)) (sym sum)
+  | inr le ↦
+      let all : n ≡ length b = omega (arith, few, le) in
+      ap (λ (z : List ℕ). z ++ take m c) (take_all n b le) ∙ sym (take_both b c m) ∙ ap (λ (k : ℕ). take (k + m) (b ++ c)) (sym all)
+]
+
+announced_more : (t : Bool) (n m : ℕ) (b c : List ℕ) → n ≤ length b → (n < length b → m ≡ 0) → announced_on (take m c) (cond t (Some (take 256 (take n b))) None) ≡ cond t (Some (take 256 (take (n + m) (b ++ c)))) None
+announced_more true n m b c few none =
+    ap Some (take_over 256 (take n b) (take m c) ∙ ap (λ (z : List ℕ). take 256 z) (fronts_joined n m b c few none))
+announced_more false n m b c few none = refl
+
+announced_next : (h : Header) (b c : List ℕ) → announced_on (take (before c (read b (begun h))) c) (announced_of h b) ≡ announced_of h (b ++ c)
+announced_next h b c =
+    announced_more (announces_warnings h) (before b (begun h)) (before c (read b (begun h))) b c (few_before b (begun h)) (comes_last b c (begun h))
+    ∙ ap (λ (n : ℕ). cond (announces_warnings h) (Some (take 256 (take n (b ++ c)))) None) (sym (before_pieces b c (begun h)))
+
 kept_on : (h : Header) (b c : List ℕ) → read_on c (kept_of h b) ≡ kept_of h (b ++ c)
 kept_on h b c =
     let front : front_of h b ++ take (256 - length (front_of h b)) (drop (before c (read b (begun h))) c) ≡ front_of h (b ++ c) =
     joined (before b (begun h)) (before c (read b (begun h))) b c (few_before b (begun h)) (comes_last b c (begun h))
     ∙ ap (λ (n : ℕ). take 256 (drop n (b ++ c))) (sym (before_pieces b c (begun h))) in
     let says : read c (read b (begun h)) ≡ read (b ++ c) (begun h) = sym (read_pieces b c (begun h)) in
-    λ i. passing (front i) (says i) true
+    let announced = announced_next h b c in
+    λ i. passing (front i) (announced i) (says i) true
 
 pub are_kept : FrontsAreKept
 are_kept h = (refl, λ b. kept_on h [] b, λ b c. kept_on h b c)

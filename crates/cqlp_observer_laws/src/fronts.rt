@@ -8,7 +8,7 @@ pub fn front_comes_last()
 {}
 
 /// In whatever pieces the body of a frame comes, one or many, of which no byte is missing, what is kept of it are the first 256 bytes of the message
-/// proper, and what it says is what its bytes say.
+/// proper, and, where warnings lie before that, the first 256 of those before it; and what it says is what its bytes say.
 pub fn fronts_are_kept()
     ensures { FrontsAreKept }
 {}

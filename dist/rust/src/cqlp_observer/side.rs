@@ -3,7 +3,7 @@
 
 use crate::kit_std::prelude::{Box, KitBox};
 use crate::cqlp_observer::heads::{Heads, Heard};
-use crate::cqlp_observer::kept::{Front, Kept};
+use crate::cqlp_observer::kept::{Announced, Front, Kept, announces_warnings};
 use crate::cqlp_observer::message::{SeenFrame, SeenMessage};
 use crate::cqlp_observer::opening::Opening;
 use crate::cqlp_note::Header;
@@ -22,6 +22,8 @@ pub(crate) struct Side {
 pub(crate) struct Present {
     /// Its first bytes.
     front: Front,
+    /// Those before them, where warnings are among these.
+    announced: Announced,
     /// What it says.
     reader: FactsReader,
     /// Whether none of its bytes is missing so far.
@@ -41,11 +43,24 @@ pub(crate) struct SideStep {
 impl Present {
     /// A message with this header, of whose body nothing came.
     #[inline(always)]
-    fn new(header: &Header) -> Self {
-        Present {
+    fn new(header: &Header) -> Result<Self, AllocError> {
+        let announced = Self::none_announced(header)?;
+        Ok(Present {
             front: Front::new(),
+            announced,
             reader: FactsReader::new(header),
             is_sound: true,
+        })
+    }
+
+    /// Of what lies before a message with this header nothing came. Takes memory where warnings are among that.
+    #[inline(always)]
+    fn none_announced(header: &Header) -> Result<Announced, AllocError> {
+        if announces_warnings(header) {
+            let none = Front::new();
+            Ok(Some(Box::kit_new(none)?))
+        } else {
+            Ok(None)
         }
     }
 
@@ -56,7 +71,17 @@ impl Present {
             return Ok(());
         }
         let before = self.reader.read(bytes);
+        self.announce(&bytes[..before])?;
         self.front.add(&bytes[before..])
+    }
+
+    /// Its next bytes that lie before the message proper.
+    #[inline(always)]
+    fn announce(&mut self, bytes: &[u8]) -> Result<(), AllocError> {
+        match &mut self.announced {
+            Some(announced) => announced.add(bytes),
+            None => Ok(()),
+        }
     }
 
     /// Some of its bytes are missing.
@@ -70,10 +95,11 @@ impl Present {
     fn into_kept(self) -> Result<Kept, AllocError> {
         let Present {
             front,
+            announced,
             reader,
             is_sound: _,
         } = self;
-        Kept::new(front, reader.facts())
+        Kept::new(front, announced, reader.facts())
     }
 }
 
@@ -199,7 +225,7 @@ impl Side {
             self.present = None;
             return Ok(SideStep::bare(used));
         }
-        let present = Present::new(header);
+        let present = Present::new(header)?;
         self.present = Some(Box::kit_new(present)?);
         Ok(SideStep::nothing(used))
     }
@@ -225,7 +251,7 @@ impl Side {
     /// What is kept of a message with this header and body.
     #[inline(never)]
     fn kept_of_whole(&self, header: Header, body: &[u8]) -> Result<Kept, AllocError> {
-        let mut present = Present::new(&header);
+        let mut present = Present::new(&header)?;
         present.keep(body)?;
         present.into_kept()
     }

@@ -28,6 +28,6 @@ fn subject_notation(header: &Header) -> Option<Notation> {
 }
 
 /// Whether some bit of these is set.
-fn has(flags: u8, bits: u8) -> bool {
+pub(crate) fn has(flags: u8, bits: u8) -> bool {
     flags & bits > 0
 }

@@ -395,7 +395,7 @@ impl WatchStep {
 }
 
 /// How much room the text of a message takes that passes in several pieces.
-const PRESENT_ROOM: usize = 512;
+const PRESENT_ROOM: usize = 832;
 
 /// How much room the texts of a connection take, which took so much, where a side kept a message's and keeps one.
 #[inline(always)]
