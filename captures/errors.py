@@ -222,7 +222,7 @@ def page_of(flags, body):
 
 def reply_of(opcode, flags, body):
     found, words = (error_of if opcode == 0x00 else page_of)(flags, body)
-    warned = " warnings 1" if flags & 0x08 else ""
+    warned = ' warnings 1 "slow"' if flags & 0x08 else ""
     return found, f"{words}{warned} {9 + len(body)}" + (" compressed" if flags & 0x01 else "")
 
 

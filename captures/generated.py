@@ -134,7 +134,7 @@ def warned(chance):
     """The flags, the first bytes of a body and the facts of a response with a tracing id or warnings, or of one without."""
     kind = chance.random()
     if kind < 0.1:
-        return 0x08, short(1) + string("Read 5000 tombstones"), {"warnings": 1}
+        return 0x08, short(1) + string("Read 5000 tombstones"), {"warnings": 1, "warning": "Read 5000 tombstones"}
     if kind < 0.2:
         return 0x02, bytes(range(0x61, 0x71)), {"tracing_id": "61626364-6566-6768-696a-6b6c6d6e6f70"}
     return 0, b"", {}

@@ -177,9 +177,10 @@ def answered(flags, body, message):
     """What follows the kind of a response."""
     fields = Fields(body)
     tracing = f" tracing {uuid.UUID(bytes=fields.take(16))}" if flags & 0x02 else ""
-    warnings = [fields.text() for _ in range(fields.number())] if flags & 0x08 else None
+    warnings = [fields.text().decode() for _ in range(fields.number())] if flags & 0x08 else None
     pass_payload(fields, flags)
-    return said_by(fields, message) + ("" if warnings is None else f" warnings {len(warnings)}") + tracing
+    warned = "" if warnings is None else f" warnings {len(warnings)}" + "".join(f' "{text}"' for text in warnings[:1])
+    return said_by(fields, message) + warned + tracing
 
 
 def bytes_of(message):

@@ -74,6 +74,8 @@ def response(of):
         words.append("more")
     if of["warnings"] is not None:
         words.append(f"warnings {of['warnings']}")
+    if of["warning"] is not None:
+        words.append(quoted(of["warning"], of["warning_is_whole"]))
     if of["tracing_id"] is not None:
         words.append(f"tracing {of['tracing_id']}")
     return " ".join([*words, mark(of, "response")])
@@ -313,7 +315,7 @@ def row_of_interval(of):
 # The names of the fields of --csv, which are keys of objects.
 COLUMNS = """told time utc client node connection stream request request_bytes request_is_whole request_is_compressed statements statement id statement_is_whole
     consistency page_size has_paging_state response response_bytes response_is_whole response_is_compressed result error message message_is_whole rows columns
-    has_more_pages warnings tracing_id took connection_end protocol version""".split()
+    has_more_pages warnings warning warning_is_whole tracing_id took connection_end protocol version""".split()
 
 # What a terminal may obey, and the backslash.
 HIDDEN = re.compile("[\\0-\x1f\x7f-\x9f\u061c\u200e\u200f\u2028-\u202e\u2066-\u2069]|\\\\")

@@ -3,6 +3,7 @@ pub mod Spans
 pub mod Times
 pub mod Statements
 pub mod Replies
+pub mod Warnings
 pub mod Reports
 pub mod Labels
 pub mod Prepared

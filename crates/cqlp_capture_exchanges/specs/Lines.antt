@@ -8,7 +8,7 @@ use Rattle.cqlp_note.specs.Heading.{has, beside_number}
 use Rattle.cqlp_text.specs.Names.{opcode_name}
 use Rattle.cqlp_text.specs.Text.{hex_text}
 use Rattle.cqlp_observer_facts.specs.declared.facts.Facts.{Facts}
-use Rattle.cqlp_observer.specs.Keeping.{Kept}
+use Rattle.cqlp_observer.specs.Keeping.{Kept, announced_bytes}
 use Rattle.cqlp_observer.specs.declared.message.Frame.{Frame}
 use Rattle.cqlp_observer.specs.declared.message.Message.{Message}
 use Rattle.cqlp_observer.specs.declared.opening.Opening.{Opening}
@@ -36,6 +36,7 @@ use Rattle.cqlp_capture_summary.specs.Shown.{shown_text}
 use Rattle.cqlp_capture_exchanges.specs.Spans.{is_whole, time_between, took}
 use Rattle.cqlp_capture_exchanges.specs.Statements.{Said, Text, Id, statement, statements}
 use Rattle.cqlp_capture_exchanges.specs.Times.{joined, time_text, utc_text}
+use Rattle.cqlp_capture_exchanges.specs.Warnings.{warning}
 
 -- ---- what a request asks to be done, after a space
 
@@ -106,10 +107,10 @@ pages_mark s = []
 abbrev pub page_counts_text : Facts → List ℕ
 page_counts_text f = joined (counts_text f.rows f.columns ∷ pages_mark f.has_more_pages ∷ [])
 
--- how many warnings a response has
-abbrev pub warnings_text : Option ℕ → List ℕ
-warnings_text None = []
-warnings_text (Some n) = joined (codes " warnings " ∷ decimal n ∷ [])
+-- how many warnings a response has, and the first one
+abbrev pub warnings_text : Option ℕ → (first : Option Said) → List ℕ
+warnings_text None first = []
+warnings_text (Some n) first = joined (codes " warnings " ∷ decimal n ∷ statement_text first ∷ [])
 
 abbrev pub tracing_text : Option (List ℕ) → List ℕ
 tracing_text None = []
@@ -145,7 +146,8 @@ abbrev pub response_text : Message Kept → List ℕ
 response_text m =
     joined (reply_text (reply m.frame.header m.kept.front) ∷ page_counts_text m.kept.facts
     ∷ error_text (reply m.frame.header m.kept.front) m.kept.front ∷ given_up_mark m.kept.is_text_dropped
-    ∷ warnings_text m.kept.facts.warnings ∷ tracing_text m.kept.facts.trace_id ∷ frame_text m.frame ∷ [])
+    ∷ warnings_text m.kept.facts.warnings (warning m.frame.header (announced_bytes m.kept.announced))
+    ∷ tracing_text m.kept.facts.trace_id ∷ frame_text m.frame ∷ [])
 
 -- ---- the line
 

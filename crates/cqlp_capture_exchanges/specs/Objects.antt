@@ -8,7 +8,7 @@ use Rattle.cqlp_text.specs.Names.{opcode_name}
 use Rattle.cqlp_observer_facts.specs.declared.facts.Facts.{Facts}
 use Rattle.cqlp_json.specs.Lines.{Members, member, texts}
 use Rattle.cqlp_json.specs.Values.{hex, string, word}
-use Rattle.cqlp_observer.specs.Keeping.{Kept}
+use Rattle.cqlp_observer.specs.Keeping.{Kept, announced_bytes}
 use Rattle.cqlp_observer.specs.declared.message.Frame.{Frame}
 use Rattle.cqlp_observer.specs.declared.message.Message.{Message}
 use Rattle.cqlp_observer.specs.declared.opening.Opening.{Opening}
@@ -33,6 +33,7 @@ use Rattle.cqlp_capture_exchanges.specs.Replies.{error_names, kind_names, messag
 use Rattle.cqlp_capture_exchanges.specs.Spans.{is_whole, time_between, took}
 use Rattle.cqlp_capture_exchanges.specs.Statements.{Said, Text, Id, statement, statements}
 use Rattle.cqlp_capture_exchanges.specs.Times.{joined}
+use Rattle.cqlp_capture_exchanges.specs.Warnings.{warning}
 
 -- ---- what is reported; when its first byte came, in seconds since the first packet and as a date and a time of day; and where
 
@@ -113,13 +114,30 @@ error_members is_given_up r b = joined (texts (message_members is_given_up (mess
 abbrev pub result_members : Facts → Members
 result_members f =
     member "rows" (signed_or_null f.rows) ∷ member "columns" (signed_or_null f.columns) ∷ member "has_more_pages" (flag_or_null f.has_more_pages)
-    ∷ member "warnings" (number_or_null f.warnings) ∷ member "tracing_id" (uuid_or_null f.trace_id) ∷ []
+    ∷ member "warnings" (number_or_null f.warnings) ∷ []
+
+-- the first warning, and whether all of it is there
+abbrev pub warning_as : (text is_whole : List ℕ) → Members
+warning_as text is_whole = member "warning" text ∷ member "warning_is_whole" is_whole ∷ []
+
+abbrev pub warning_members : (is_given_up : Bool) → Option Said → Members
+warning_members is_given_up (Some (Text text is_whole)) = warning_as (string text) (boolean_text is_whole)
+warning_members is_given_up s = warning_as null (none_whole is_given_up)
+
+abbrev pub tracing_members : Facts → Members
+tracing_members f = member "tracing_id" (uuid_or_null f.trace_id) ∷ []
+
+abbrev pub known_members : Message Kept → List ℕ
+known_members m =
+    joined (texts (result_members m.kept.facts)
+    ∷ texts (warning_members m.kept.is_text_dropped (warning m.frame.header (announced_bytes m.kept.announced)))
+    ∷ texts (tracing_members m.kept.facts) ∷ [])
 
 abbrev pub response_members : Message Kept → List ℕ
 response_members m =
     joined (texts (response_frame_members m.frame) ∷ texts (reply_members (reply m.frame.header m.kept.front))
     ∷ error_members m.kept.is_text_dropped (reply m.frame.header m.kept.front) m.kept.front
-    ∷ texts (result_members m.kept.facts) ∷ [])
+    ∷ known_members m ∷ [])
 
 -- ---- the object. Where there is no request, or no response, it has none of its keys.
 

@@ -43,6 +43,7 @@ mod sums;
 mod table;
 mod table_name;
 mod utc;
+mod warning;
 
 pub use capturing::write_exchanges;
 pub use exchanges::Exchanges;

@@ -8,6 +8,7 @@ ghost use Rattle.cqlp_capture_exchanges.specs.Lines.{begun_text, both_ends, ends
 ghost use Rattle.cqlp_capture_exchanges.specs.Lines.{compressed_mark, count_text, counts_text, cut_mark, end_text, error_text, frame_text};
 ghost use Rattle.cqlp_capture_exchanges.specs.Lines.{given_up_mark, kind_text, line, more, name_or_number, next_mark, opening_text, page_counts_text};
 ghost use Rattle.cqlp_capture_exchanges.specs.Lines.{page_text, pages_mark, paging_text, paired_line, place_text, tracing_text, unread_line, warnings_text};
+ghost use Rattle.cqlp_capture_exchanges.specs.Warnings.{warning};
 ghost use Rattle.cqlp_capture_exchanges.specs.Lines.{reply_text, request_text, response_text, said_text, statement_text, took_text};
 ghost use Rattle.cqlp_capture_exchanges.specs.Prepared.{known_of};
 ghost use Rattle.cqlp_capture_exchanges.specs.Statements.{said_of};
@@ -30,6 +31,7 @@ use crate::report::{ConnectionEnd, Report};
 use crate::span::{Unit, is_whole, put_time, time_between, took};
 use crate::statement::{Statement, has, statement_of, statements_of};
 use crate::utc::put_utc;
+use crate::warning::warning_of;
 use cqlp_capture_summary::put_shown_text;
 use cqlp_grammar::SinkFault;
 use cqlp_note::{Header, Target};
@@ -331,7 +333,12 @@ fn put_response<P: Pen, A: Allocator>(
     put_page_counts(writer, &facts)?;
     put_message(writer, reply, response.kept.front())?;
     writer.put_str(given_up_mark(response.kept.is_text_dropped()))?;
-    put_warnings(writer, facts.warnings)?;
+    put_warnings(
+        writer,
+        facts.warnings,
+        &response.frame.header,
+        response.kept.announced(),
+    )?;
     put_tracing(writer, facts.trace_id)?;
     put_frame(writer, &response.frame)
 }
@@ -448,21 +455,33 @@ fn put_error_message<P: Pen>(
     put_numbers(writer, &details)
 }
 
-/// Takes how many warnings a response has.
-fn put_warnings<P: Pen>(writer: &mut TextWriter<P>, count: Option<u16>) -> Result<(), SinkFault>
-    ensures { Writes writer.old (warnings_text count) result writer.new }
+/// Takes how many warnings a response has, and the first one.
+fn put_warnings<P: Pen>(
+    writer: &mut TextWriter<P>,
+    count: Option<u16>,
+    header: &Header,
+    announced: &[u8],
+) -> Result<(), SinkFault>
+    ensures { Writes writer.old (warnings_text count (warning header.now announced.now)) result writer.new }
 {
     match count {
-        Some(count) => put_warning_count(writer, count),
+        Some(count) => put_known_warnings(writer, count, header, announced),
         None => writer.put(b""),
     }
 }
 
-fn put_warning_count<P: Pen>(writer: &mut TextWriter<P>, count: u16) -> Result<(), SinkFault>
-    ensures { Writes writer.old (warnings_text (Some count)) result writer.new }
+fn put_known_warnings<P: Pen>(
+    writer: &mut TextWriter<P>,
+    count: u16,
+    header: &Header,
+    announced: &[u8],
+) -> Result<(), SinkFault>
+    ensures { Writes writer.old (warnings_text (Some count) (warning header.now announced.now)) result writer.new }
 {
+    let warning = warning_of(header, announced);
     writer.put(b" warnings ")?;
-    writer.put_number(u64::from(count))
+    writer.put_number(u64::from(count))?;
+    put_statement(writer, &warning)
 }
 
 /// Takes the tracing id of a response.

@@ -9,6 +9,7 @@ ghost use Rattle.cqlp_capture_exchanges.specs.Objects.{alone_object, count_membe
 ghost use Rattle.cqlp_capture_exchanges.specs.Objects.{message_as, message_members, none_whole, paired_object, place_members};
 ghost use Rattle.cqlp_capture_exchanges.specs.Objects.{protocol_name, query_members, reply_members, reply_values, request_frame_members};
 ghost use Rattle.cqlp_capture_exchanges.specs.Objects.{request_members, response_frame_members, response_members, result_members};
+ghost use Rattle.cqlp_capture_exchanges.specs.Objects.{known_members, tracing_members, warning_as, warning_members};
 ghost use Rattle.cqlp_capture_exchanges.specs.Objects.{statement_as, statement_members, unread_members, unread_object, version_or_null};
 ghost use Rattle.cqlp_capture_exchanges.specs.CsvFields.{field_text, none_whole_field};
 ghost use Rattle.cqlp_capture_exchanges.specs.CsvRecords.{end_field, version_field};
@@ -29,6 +30,7 @@ use crate::reply::{Reply, error_name, kind_name, message_of, reply_of};
 use crate::report::{ConnectionEnd, Report};
 use crate::span::{Span, is_whole, time_between, took};
 use crate::statement::{Statement, has, statement_of, statements_of};
+use crate::warning::warning_of;
 use cqlp_grammar::SinkFault;
 use cqlp_note::Target;
 use cqlp_observer::{Facts, Frame, Kept, Message, Opening, Paired};
@@ -419,7 +421,7 @@ fn put_response<P: Pen, A: Allocator>(
         reply,
         response.kept.front(),
     )?;
-    put_result(writer, &response.kept.facts())
+    put_known(writer, response)
 }
 
 /// Takes the message of an ERROR, and what is behind it.
@@ -472,7 +474,65 @@ fn put_message_as<P: Pen>(
     )
 }
 
-/// Takes what is known of a result.
+/// Takes what is known of a response beside that.
+fn put_known<P: Pen, A: Allocator>(
+    writer: &mut TextWriter<P>,
+    response: &Message<Kept<A>>,
+) -> Result<(), SinkFault>
+    ensures { Writes writer.old (known_members response.now) result writer.new }
+{
+    let facts = response.kept.facts();
+    let warning = warning_of(&response.frame.header, response.kept.announced());
+    put_result(writer, &facts)?;
+    put_warning(writer, response.kept.is_text_dropped(), &warning)?;
+    put_tracing(writer, &facts)
+}
+
+/// Takes the first warning of a response.
+fn put_warning<P: Pen>(
+    writer: &mut TextWriter<P>,
+    is_given_up: bool,
+    warning: &Option<Statement<'_>>,
+) -> Result<(), SinkFault>
+    ensures { Writes writer.old (texts (warning_members is_given_up (option_map said_of warning.now))) result writer.new }
+{
+    match warning {
+        Some(Statement::Text { text, is_whole }) => {
+            put_warning_as(writer, Value::Text(text), Value::Flag(*is_whole))
+        }
+        Some(Statement::Id { .. }) => {
+            put_warning_as(writer, Value::Null, none_whole(is_given_up))
+        }
+        None => put_warning_as(writer, Value::Null, none_whole(is_given_up)),
+    }
+}
+
+fn put_warning_as<P: Pen>(
+    writer: &mut TextWriter<P>,
+    text: Value<'_>,
+    is_whole: Value<'_>,
+) -> Result<(), SinkFault>
+    ensures { Writes writer.old (texts (warning_as (value_text text.entry) (value_text is_whole.entry))) result writer.new }
+{
+    put_members(
+        writer,
+        &[
+            Member(",\"warning\":", text),
+            Member(",\"warning_is_whole\":", is_whole),
+        ],
+    )
+}
+
+fn put_tracing<P: Pen>(writer: &mut TextWriter<P>, facts: &Facts) -> Result<(), SinkFault>
+    ensures { Writes writer.old (texts (tracing_members facts.now)) result writer.new }
+{
+    put_members(
+        writer,
+        &[Member(",\"tracing_id\":", uuid_or_null(facts.trace_id))],
+    )
+}
+
+/// Takes what is known of a result, and how many warnings a response has.
 fn put_result<P: Pen>(writer: &mut TextWriter<P>, facts: &Facts) -> Result<(), SinkFault>
     ensures { Writes writer.old (texts (result_members facts.now)) result writer.new }
 {
@@ -483,7 +543,6 @@ fn put_result<P: Pen>(writer: &mut TextWriter<P>, facts: &Facts) -> Result<(), S
             Member(",\"columns\":", signed_or_null(facts.columns)),
             Member(",\"has_more_pages\":", flag_or_null(facts.has_more_pages)),
             Member(",\"warnings\":", number_or_null(facts.warnings)),
-            Member(",\"tracing_id\":", uuid_or_null(facts.trace_id)),
         ],
     )
 }

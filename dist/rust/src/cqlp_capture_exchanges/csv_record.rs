@@ -15,6 +15,7 @@ use crate::cqlp_capture_exchanges::reply::{Reply, error_name, kind_name, message
 use crate::cqlp_capture_exchanges::report::{ConnectionEnd, Report};
 use crate::cqlp_capture_exchanges::span::{Span, is_whole, time_between, took};
 use crate::cqlp_capture_exchanges::statement::{Statement, has, statement_of, statements_of};
+use crate::cqlp_capture_exchanges::warning::warning_of;
 use crate::cqlp_capture_summary::Summary;
 use crate::cqlp_grammar::SinkFault;
 use crate::cqlp_json::put_word;
@@ -26,15 +27,15 @@ use crate::cqlp_text::{Buffered, Pen, TextWriter, opcode_name};
 const NAMES: &str =
     "told,time,utc,client,node,connection,stream,request,request_bytes,request_is_whole,request_is_compressed,statements,\
     statement,id,statement_is_whole,consistency,page_size,has_paging_state,response,response_bytes,response_is_whole,\
-    response_is_compressed,result,error,message,message_is_whole,rows,columns,has_more_pages,warnings,tracing_id,took,\
-    connection_end,protocol,version\r\n";
+    response_is_compressed,result,error,message,message_is_whole,rows,columns,has_more_pages,warnings,warning,\
+    warning_is_whole,tracing_id,took,connection_end,protocol,version\r\n";
 
 /// In place of the fields of a request, of a response, and of all between a connection's number and its protocol.
 const NO_REQUEST: &[u8] = b",,,,,,,,,,,";
 
-const NO_RESPONSE: &[u8] = b",,,,,,,,,,,,,";
+const NO_RESPONSE: &[u8] = b",,,,,,,,,,,,,,,";
 
-const NO_MESSAGE: &[u8] = b",,,,,,,,,,,,,,,,,,,,,,,,,,,";
+const NO_MESSAGE: &[u8] = b",,,,,,,,,,,,,,,,,,,,,,,,,,,,,";
 
 /// Takes the record of a report of this connection, in a capture whose first packet came at this time, behind one with the names of the fields if it is
 /// the first, and passes it on.
@@ -336,7 +337,7 @@ fn put_response<P: Pen>(
     put_frame(writer, &response.frame)?;
     put_reply(writer, reply)?;
     put_message(writer, response.kept.is_text_dropped(), &message)?;
-    put_result(writer, &response.kept.facts())
+    put_known(writer, response)
 }
 
 /// Takes what a response is.
@@ -369,7 +370,40 @@ fn put_message<P: Pen>(
     }
 }
 
-/// Takes what is known of a result.
+/// Takes what is known of a response beside that.
+fn put_known<P: Pen>(
+    writer: &mut TextWriter<P>,
+    response: &SeenMessage<Kept>,
+) -> Result<(), SinkFault> {
+    let facts = response.kept.facts();
+    let warning = warning_of(&response.frame.header, response.kept.announced());
+    put_result(writer, &facts)?;
+    put_warning(writer, response.kept.is_text_dropped(), &warning)?;
+    put_tracing(writer, &facts)
+}
+
+/// Takes the first warning of a response.
+fn put_warning<P: Pen>(
+    writer: &mut TextWriter<P>,
+    is_given_up: bool,
+    warning: &Option<Statement<'_>>,
+) -> Result<(), SinkFault> {
+    match warning {
+        Some(Statement::Text { text, is_whole }) => {
+            put_fields(writer, &[Value::Text(text), Value::Flag(*is_whole)])
+        }
+        Some(Statement::Id { .. }) => {
+            put_fields(writer, &[Value::Null, none_whole(is_given_up)])
+        }
+        None => put_fields(writer, &[Value::Null, none_whole(is_given_up)]),
+    }
+}
+
+fn put_tracing<P: Pen>(writer: &mut TextWriter<P>, facts: &Facts) -> Result<(), SinkFault> {
+    put_fields(writer, &[uuid_or_null(facts.trace_id)])
+}
+
+/// Takes what is known of a result, and how many warnings a response has.
 fn put_result<P: Pen>(writer: &mut TextWriter<P>, facts: &Facts) -> Result<(), SinkFault> {
     put_fields(
         writer,
@@ -378,7 +412,6 @@ fn put_result<P: Pen>(writer: &mut TextWriter<P>, facts: &Facts) -> Result<(), S
             signed_or_null(facts.columns),
             flag_or_null(facts.has_more_pages),
             number_or_null(facts.warnings),
-            uuid_or_null(facts.trace_id),
         ],
     )
 }

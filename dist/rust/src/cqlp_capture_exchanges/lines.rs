@@ -15,6 +15,7 @@ use crate::cqlp_capture_exchanges::report::{ConnectionEnd, Report};
 use crate::cqlp_capture_exchanges::span::{Unit, is_whole, put_time, time_between, took};
 use crate::cqlp_capture_exchanges::statement::{Statement, has, statement_of, statements_of};
 use crate::cqlp_capture_exchanges::utc::put_utc;
+use crate::cqlp_capture_exchanges::warning::warning_of;
 use crate::cqlp_capture_summary::put_shown_text;
 use crate::cqlp_grammar::SinkFault;
 use crate::cqlp_note::{Header, Target};
@@ -275,7 +276,12 @@ fn put_response<P: Pen>(
     put_page_counts(writer, &facts)?;
     put_message(writer, reply, response.kept.front())?;
     writer.put_str(given_up_mark(response.kept.is_text_dropped()))?;
-    put_warnings(writer, facts.warnings)?;
+    put_warnings(
+        writer,
+        facts.warnings,
+        &response.frame.header,
+        response.kept.announced(),
+    )?;
     put_tracing(writer, facts.trace_id)?;
     put_frame(writer, &response.frame)
 }
@@ -372,17 +378,29 @@ fn put_error_message<P: Pen>(
     put_numbers(writer, &details)
 }
 
-/// Takes how many warnings a response has.
-fn put_warnings<P: Pen>(writer: &mut TextWriter<P>, count: Option<u16>) -> Result<(), SinkFault> {
+/// Takes how many warnings a response has, and the first one.
+fn put_warnings<P: Pen>(
+    writer: &mut TextWriter<P>,
+    count: Option<u16>,
+    header: &Header,
+    announced: &[u8],
+) -> Result<(), SinkFault> {
     match count {
-        Some(count) => put_warning_count(writer, count),
+        Some(count) => put_known_warnings(writer, count, header, announced),
         None => writer.put(b""),
     }
 }
 
-fn put_warning_count<P: Pen>(writer: &mut TextWriter<P>, count: u16) -> Result<(), SinkFault> {
+fn put_known_warnings<P: Pen>(
+    writer: &mut TextWriter<P>,
+    count: u16,
+    header: &Header,
+    announced: &[u8],
+) -> Result<(), SinkFault> {
+    let warning = warning_of(header, announced);
     writer.put(b" warnings ")?;
-    writer.put_number(u64::from(count))
+    writer.put_number(u64::from(count))?;
+    put_statement(writer, &warning)
 }
 
 /// Takes the tracing id of a response.

@@ -42,6 +42,7 @@ mod sums;
 mod table;
 mod table_name;
 mod utc;
+mod warning;
 
 pub(crate) use capturing::{write_exchanges};
 pub use exchanges::Exchanges;

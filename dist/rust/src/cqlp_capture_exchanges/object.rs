@@ -15,6 +15,7 @@ use crate::cqlp_capture_exchanges::reply::{Reply, error_name, kind_name, message
 use crate::cqlp_capture_exchanges::report::{ConnectionEnd, Report};
 use crate::cqlp_capture_exchanges::span::{Span, is_whole, time_between, took};
 use crate::cqlp_capture_exchanges::statement::{Statement, has, statement_of, statements_of};
+use crate::cqlp_capture_exchanges::warning::warning_of;
 use crate::cqlp_grammar::SinkFault;
 use crate::cqlp_note::Target;
 use crate::cqlp_observer::{Facts, SeenFrame, Kept, SeenMessage, Opening, Paired};
@@ -358,7 +359,7 @@ fn put_response<P: Pen>(
         reply,
         response.kept.front(),
     )?;
-    put_result(writer, &response.kept.facts())
+    put_known(writer, response)
 }
 
 /// Takes the message of an ERROR, and what is behind it.
@@ -405,7 +406,57 @@ fn put_message_as<P: Pen>(
     )
 }
 
-/// Takes what is known of a result.
+/// Takes what is known of a response beside that.
+fn put_known<P: Pen>(
+    writer: &mut TextWriter<P>,
+    response: &SeenMessage<Kept>,
+) -> Result<(), SinkFault> {
+    let facts = response.kept.facts();
+    let warning = warning_of(&response.frame.header, response.kept.announced());
+    put_result(writer, &facts)?;
+    put_warning(writer, response.kept.is_text_dropped(), &warning)?;
+    put_tracing(writer, &facts)
+}
+
+/// Takes the first warning of a response.
+fn put_warning<P: Pen>(
+    writer: &mut TextWriter<P>,
+    is_given_up: bool,
+    warning: &Option<Statement<'_>>,
+) -> Result<(), SinkFault> {
+    match warning {
+        Some(Statement::Text { text, is_whole }) => {
+            put_warning_as(writer, Value::Text(text), Value::Flag(*is_whole))
+        }
+        Some(Statement::Id { .. }) => {
+            put_warning_as(writer, Value::Null, none_whole(is_given_up))
+        }
+        None => put_warning_as(writer, Value::Null, none_whole(is_given_up)),
+    }
+}
+
+fn put_warning_as<P: Pen>(
+    writer: &mut TextWriter<P>,
+    text: Value<'_>,
+    is_whole: Value<'_>,
+) -> Result<(), SinkFault> {
+    put_members(
+        writer,
+        &[
+            Member(",\"warning\":", text),
+            Member(",\"warning_is_whole\":", is_whole),
+        ],
+    )
+}
+
+fn put_tracing<P: Pen>(writer: &mut TextWriter<P>, facts: &Facts) -> Result<(), SinkFault> {
+    put_members(
+        writer,
+        &[Member(",\"tracing_id\":", uuid_or_null(facts.trace_id))],
+    )
+}
+
+/// Takes what is known of a result, and how many warnings a response has.
 fn put_result<P: Pen>(writer: &mut TextWriter<P>, facts: &Facts) -> Result<(), SinkFault> {
     put_members(
         writer,
@@ -414,7 +465,6 @@ fn put_result<P: Pen>(writer: &mut TextWriter<P>, facts: &Facts) -> Result<(), S
             Member(",\"columns\":", signed_or_null(facts.columns)),
             Member(",\"has_more_pages\":", flag_or_null(facts.has_more_pages)),
             Member(",\"warnings\":", number_or_null(facts.warnings)),
-            Member(",\"tracing_id\":", uuid_or_null(facts.trace_id)),
         ],
     )
 }

@@ -1,7 +1,6 @@
 use Rattle.std.proofs.Common.{ap, refl, ◌∙◌}
 use Rattle.cqlp_json.specs.Lines.{texts}
-use Rattle.cqlp_observer_facts.specs.declared.facts.Facts.{Facts}
-use Rattle.cqlp_capture_exchanges.specs.CsvRecords.{message_fields, reply_fields, result_fields}
+use Rattle.cqlp_capture_exchanges.specs.CsvRecords.{message_fields, reply_fields}
 use Rattle.cqlp_capture_exchanges.specs.Replies.{message, reply}
 use Rattle.cqlp_text.proofs.Writing.{progress_starts}
 use Rattle.cqlp_capture_exchanges.proofs.Texts.{said_last, said_next, said_stops}
@@ -27,4 +26,4 @@ returns g c =
     let s1 = said_next _ (progress_starts _ _) refl refl c.in_ok-put_frame.ensures in
     let s2 = said_next _ s1 refl (ap (λ z. texts (reply_fields z)) (c.reply_of-reply.ensures ∙ ap (reply c.args.response.now.frame.header) c.front-front.ensures)) c.in_ok-put_reply.ensures in
     let s3 = said_next _ s2 refl (λ i. texts (message_fields (c.is_text_dropped.ensures i) ((c.message_of-message.ensures ∙ (λ j. message ((c.reply_of-reply.ensures ∙ ap (reply c.args.response.now.frame.header) c.front-front.ensures) j) (c.front-front.ensures j))) i))) c.in_ok-put_message.ensures in
-    said_last _ _ c.put_result.result s3 refl (ap (λ (f : Facts). texts (result_fields f)) c.facts.ensures) c.put_result.ensures
+    said_last _ _ c.put_known.result s3 refl refl c.put_known.ensures

@@ -1,0 +1,23 @@
+use Rattle.std.proofs.Common.{ap, refl, ◌∙◌}
+use Rattle.cqlp_json.specs.Lines.{texts}
+use Rattle.cqlp_observer_facts.specs.declared.facts.Facts.{Facts}
+use Rattle.cqlp_capture_exchanges.specs.Objects.{result_members, tracing_members, warning_members}
+use Rattle.cqlp_capture_exchanges.specs.Warnings.{warning}
+use Rattle.cqlp_text.proofs.Writing.{progress_starts}
+use Rattle.cqlp_capture_exchanges.proofs.Texts.{said_last, said_next, said_stops}
+use Rattle.cqlp_capture_exchanges.proofs.object.put_known.Goals as goal
+
+pub returns-in_err-put_result : goal.returns-in_err-put_result
+returns-in_err-put_result g c =
+    said_stops _ c.from_residual.result c.from_residual.ensures.0 (progress_starts _ _) refl (ap (λ (f : Facts). texts (result_members f)) c.facts-facts.ensures) c.in_err-put_result.ensures
+
+pub returns-in_err-put_warning : goal.returns-in_err-put_warning
+returns-in_err-put_warning g c =
+    let s1 = said_next _ (progress_starts _ _) refl (ap (λ (f : Facts). texts (result_members f)) c.facts-facts.ensures) c.in_ok-put_result.ensures in
+    said_stops _ c.from_residual-in_err-put_warning.result c.from_residual-in_err-put_warning.ensures.0 s1 refl (λ i. texts (warning_members (c.is_text_dropped.ensures i) ((c.warning_of-warning.ensures ∙ ap (warning c.args.response.now.frame.header) c.announced.ensures) i))) c.in_err-put_warning.ensures
+
+pub returns : goal.returns
+returns g c =
+    let s1 = said_next _ (progress_starts _ _) refl (ap (λ (f : Facts). texts (result_members f)) c.facts-facts.ensures) c.in_ok-put_result.ensures in
+    let s2 = said_next _ s1 refl (λ i. texts (warning_members (c.is_text_dropped.ensures i) ((c.warning_of-warning.ensures ∙ ap (warning c.args.response.now.frame.header) c.announced.ensures) i))) c.in_ok-put_warning.ensures in
+    said_last _ _ c.put_tracing.result s2 refl (ap (λ (f : Facts). texts (tracing_members f)) c.facts-facts.ensures) c.put_tracing.ensures
