@@ -682,8 +682,8 @@ pub mod capture {
 ///
 /// A [`Watch`](watch::Watch) takes the bytes of both directions as they pass, in pieces of any size, and answers each request with the
 /// response that comes under its stream id. It goes by the headers of frames: a body may be of any length, compressed or one that a decoder
-/// refuses, and nothing of it is held but the first 256 bytes of the message and its [`Facts`](watch::Facts), which are
-/// read as the bytes pass. Memory is taken for each message that waits, some 200 bytes and its first bytes, and for the two bodies that pass, and given back
+/// refuses, and nothing of it is held but the first 256 bytes of the message, with warnings the first 256 before it too, and its
+/// [`Facts`](watch::Facts), which are read as the bytes pass. Memory is taken for each message that waits, some 200 bytes and its first bytes, and for the two bodies that pass, and given back
 /// with them. Each call is given how much may wait: [`WatchRoom::ONE`](watch::WatchRoom::ONE), for who has one connection.
 ///
 /// ```
