@@ -8,5 +8,6 @@ pub mod Types
 pub mod Nesting
 pub mod Building
 pub mod Productions
+pub mod Putting
 pub mod Closing
 pub mod Laws

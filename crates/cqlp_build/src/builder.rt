@@ -185,6 +185,7 @@ impl FrameBuilder {
     }
 
     /// A frame begins.
+    #[cold]
     #[inline(never)]
     fn begin(&mut self, header: Header) -> Result<Option<BuiltFrame>, BuildError>
         ensures { TakesEvent (state self.old) (model.Frame header) result (state self.new) }
@@ -198,6 +199,7 @@ impl FrameBuilder {
     }
 
     /// A frame ends, with this many bytes after its last field.
+    #[cold]
     #[inline(never)]
     fn end(&mut self, extra: u32) -> Result<Option<BuiltFrame>, BuildError>
         ensures { TakesEvent (state self.old) (model.End extra) result (state self.new) }
@@ -253,17 +255,17 @@ impl FrameBuilder {
         ensures { TakesEvent (state self.old) (event_of event.now) result (state self.new) }
     {
         if self.is_between() {
-            return Err(BuildError::Misplaced);
+            return refuse(BuildError::Misplaced);
         }
         if self.is_full() {
-            return Err(BuildError::TooManyFields);
+            return refuse(BuildError::TooManyFields);
         }
         let size = content_size(event);
         if self.lacks_room(size) {
-            return Err(BuildError::TooManyBytes);
+            return refuse(BuildError::TooManyBytes);
         }
         if self.held.items.push(self.held.alloc, event).is_err() {
-            return Err(BuildError::NoMemory);
+            return refuse(BuildError::NoMemory);
         }
         self.room -= size;
         Ok(None)
@@ -289,6 +291,15 @@ impl FrameBuilder {
     {
         size > self.room
     }
+}
+
+/// Refuses an event for this reason.
+#[cold]
+#[inline(never)]
+fn refuse(why: BuildError) -> Result<Option<BuiltFrame>, BuildError>
+    ensures { result ≡ Err why }
+{
+    Err(why)
 }
 
 /// Whether it is a part of a scalar of a cell.

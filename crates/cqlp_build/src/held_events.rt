@@ -3,18 +3,20 @@
 ghost use Rattle.std.specs.Prelude.{◌≡◌, ◌==◌, ◌+◌, ◌^◌, ◌-◌, ◌++◌, ◌∷◌, if◌then◌else◌};
 ghost use Rattle.std.specs.Prelude.{[], MatchOption, OnErr, OnOk, is_ok, length, map, min, option_map, option_to_list};
 ghost use Rattle.cqlp_grammar.specs.Events.{event_of};
+ghost use Rattle.cqlp_kind.specs.Contents.{value_of};
 ghost use Rattle.cqlp_message.specs.Owned.{metadata_of};
 ghost use Rattle.cqlp_build.specs.FrameEvents.{IsHeld, item_event};
 ghost use Rattle.cqlp_build.specs.declared.item.Item.TheVariants as item;
 ghost use Rattle.cqlp_build.specs.Plain as plain;
+ghost use Rattle.cqlp_build.specs.Putting.{PutsEvent, scalar_event};
 ghost use Rattle.cqlp_build.specs.WholePage.{TakesPage};
 
 use crate::item::{Content, Item, own};
 use crate::misfit::is_impossible;
-use crate::plain_cells::{is_next, is_of_kind, is_page, kind_at, step_of, take_cell};
+use crate::plain_cells::{is_next, is_of_kind, is_page, kind_at, put_scalar, step_of, take_cell};
 use cqlp_build_cells::own_scalar;
 use cqlp_grammar::Event;
-use cqlp_kind::Kind;
+use cqlp_kind::{Kind, Scalar};
 use cqlp_message::Metadata;
 use cqlp_note::Field;
 use cqlp_value::Value;
@@ -112,14 +114,53 @@ impl HeldEvents {
                 level: 0,
                 scalar,
             } => {
-                let atom = own_scalar(alloc, scalar)?;
-                self.push_cell(*row, *column, Value::Leaf(atom))
+                if self.put_cell(alloc, *row, *column, scalar)? {
+                    return Ok(());
+                }
+                self.push_scalar(alloc, *row, *column, scalar)
             }
             _ => self.push_other(alloc, event),
         }
     }
 
+    /// Adds the cell of a row and a column behind the others, which is this scalar, if it is the next of the run and the run has room for it, and
+    /// says whether it did so.
+    #[inline(always)]
+    fn put_cell(
+        &mut self,
+        alloc: Global,
+        row: u32,
+        column: u32,
+        scalar: &Scalar<'_>,
+    ) -> Result<bool, AllocError>
+        ensures { PutsEvent (scalar_event row column (value_of scalar.now)) result self.old self.new }
+    {
+        if !is_next(row, column, self.last, &self.cells, self.taken, &self.tail) {
+            return Ok(false);
+        }
+        let kind = kind_at(&self.kinds, column);
+        put_scalar(alloc, &mut self.cells, kind, scalar)
+    }
+
+    /// Adds the cell of a row and a column behind the others, which is this scalar: mostly one of the run for which there is no room yet.
+    #[cold]
+    #[inline(never)]
+    fn push_scalar(
+        &mut self,
+        alloc: Global,
+        row: u32,
+        column: u32,
+        scalar: &Scalar<'_>,
+    ) -> Result<(), AllocError>
+        ensures added { OnOk result (map item_event self.new.items ≡ map item_event self.old.items ++ scalar_event row column (value_of scalar.now) ∷ []) }
+        ensures same { OnErr result (self.new.items ≡ self.old.items) }
+    {
+        let atom = own_scalar(alloc, scalar)?;
+        self.push_cell(row, column, Value::Leaf(atom))
+    }
+
     /// Adds an event behind the others, which is mostly no scalar of the run.
+    #[cold]
     #[inline(never)]
     fn push_other(&mut self, alloc: Global, event: &Event<'_>) -> Result<(), AllocError>
         requires { IsHeld (event_of event.now) }
@@ -145,7 +186,6 @@ impl HeldEvents {
     }
 
     /// Adds the cell of a row and a column behind the others, which is a plain value.
-    #[inline(always)]
     fn push_cell(&mut self, row: u32, column: u32, cell: Value) -> Result<(), AllocError>
         ensures { let item = item.Cell row column 0 (plain.step_of cell) in
             self.new.items ≡ (if is_ok result then self.old.items ++ item ∷ [] else self.old.items) }

@@ -1,19 +1,24 @@
 //! Plain cells of pages: scalars, nulls and empty values, each of which is one event.
 
-ghost use Rattle.std.specs.Prelude.{◌≡◌, ◌+◌, ◌*◌, ◌/◌, ◌%◌, ◌^◌, ◌<◌, ◌∷◌, [], IsTrue, drop, length, map, true};
+ghost use Rattle.std.specs.Prelude.{◌≡◌, ◌+◌, ◌*◌, ◌/◌, ◌%◌, ◌^◌, ◌<◌, ◌∷◌, [], IsTrue, drop, length, map, true, vec_capacity, vec_len};
+ghost use Rattle.cqlp_kind.specs.Contents.{value_of};
+ghost use Rattle.cqlp_kind.specs.Scalars.{Varchar};
+ghost use Rattle.cqlp_kind.specs.declared.kind.Kind.TheVariants as kind;
 ghost use Rattle.cqlp_type.specs.declared.tree.TypeTree.{Plain};
 ghost use Rattle.cqlp_value.specs.declared.value.Value.{Value};
 ghost use Rattle.cqlp_message.specs.Bodies.{cell_types, column_types};
 ghost use Rattle.cqlp_message.specs.Owned.{metadata_of, spec_of};
 ghost use Rattle.cqlp_build.specs.Plain as plain;
 ghost use Rattle.cqlp_build.specs.Plain.{cell_item, kind_types};
+ghost use Rattle.cqlp_build.specs.Putting.{PutsScalar};
 
 use crate::item::Item;
-use cqlp_build_cells::Step;
-use cqlp_kind::Kind;
+use cqlp_build_cells::{Step, own_scalar};
+use cqlp_kind::{Kind, Scalar};
 use cqlp_message::{Metadata, Spec};
 use cqlp_type::TypeTree;
-use cqlp_value::Value;
+use cqlp_value::{Atom, Value};
+use std::alloc::{AllocError, Global};
 use std::collections::VecDeque;
 use std::mem;
 
@@ -122,6 +127,90 @@ pub(crate) fn is_of_kind(value: &Value, kind: Kind) -> bool
         Value::Empty => true,
         _ => false,
     }
+}
+
+/// Adds a scalar behind the cells, if it is one of this kind and they have room for it, and says whether it did so. The most common kinds have
+/// arms of their own.
+#[inline(always)]
+pub(crate) fn put_scalar(
+    alloc: Global,
+    cells: &mut Vec<Value>,
+    kind: Kind,
+    scalar: &Scalar<'_>,
+) -> Result<bool, AllocError>
+    ensures { PutsScalar kind (value_of scalar.now) result cells.old.items cells.new.items }
+{
+    // Each asks for room right before it adds, so that the compiler leaves out what a push does without room, and writes the value in its place.
+    match *scalar {
+        Scalar::Int(number) if is(kind, Kind::Int) && has_room(cells) => {
+            cells.push_reserved(Value::Leaf(Atom::Int(number)));
+            Ok(true)
+        }
+        Scalar::Bigint(number) if is(kind, Kind::Bigint) && has_room(cells) => {
+            cells.push_reserved(Value::Leaf(Atom::Bigint(number)));
+            Ok(true)
+        }
+        Scalar::Boolean(value) if is(kind, Kind::Boolean) && has_room(cells) => {
+            cells.push_reserved(Value::Leaf(Atom::Boolean(value)));
+            Ok(true)
+        }
+        Scalar::Varchar(text) if is(kind, Kind::Varchar) && has_room(cells) => {
+            put_text(alloc, cells, text)
+        }
+        _ => put_any_scalar(alloc, cells, kind, scalar),
+    }
+}
+
+/// Adds a text behind the cells, for which they have room, as a varchar, if it is not empty, and says whether it did so.
+#[inline(always)]
+fn put_text(alloc: Global, cells: &mut Vec<Value>, text: &str) -> Result<bool, AllocError>
+    requires { vec_len cells.old < vec_capacity cells.old }
+    ensures { PutsScalar kind.Varchar (Varchar text.now) result cells.old.items cells.new.items }
+{
+    if text.is_empty() {
+        return Ok(false);
+    }
+    let text = String::from_str(alloc, text)?;
+    cells.push_reserved(Value::Leaf(Atom::Varchar(text)));
+    Ok(true)
+}
+
+/// Adds a scalar of any kind behind the cells, if it is one of this kind and they have room for it, and says whether it did so.
+#[cold]
+#[inline(never)]
+fn put_any_scalar(
+    alloc: Global,
+    cells: &mut Vec<Value>,
+    kind: Kind,
+    scalar: &Scalar<'_>,
+) -> Result<bool, AllocError>
+    ensures { PutsScalar kind (value_of scalar.now) result cells.old.items cells.new.items }
+{
+    if !has_room(cells) {
+        return Ok(false);
+    }
+    let cell = Value::Leaf(own_scalar(alloc, scalar)?);
+    if !is_of_kind(&cell, kind) {
+        return Ok(false);
+    }
+    cells.push_reserved(cell);
+    Ok(true)
+}
+
+/// Whether they have room for one more.
+#[inline(always)]
+fn has_room(cells: &Vec<Value>) -> bool
+    ensures { IsTrue result → vec_len cells.now < vec_capacity cells.now }
+{
+    cells.len() < cells.capacity()
+}
+
+/// Whether a kind is this one.
+#[inline(always)]
+fn is(kind: Kind, this: Kind) -> bool
+    ensures { IsTrue result → kind ≡ this }
+{
+    kind == this
 }
 
 /// Takes the cell of this number, as the event that it is.

@@ -156,6 +156,7 @@ impl FrameBuilder {
     }
 
     /// A frame begins.
+    #[cold]
     #[inline(never)]
     fn begin(&mut self, header: Header) -> Result<Option<BuiltFrame>, BuildError> {
         if self.header.is_some() {
@@ -167,6 +168,7 @@ impl FrameBuilder {
     }
 
     /// A frame ends, with this many bytes after its last field.
+    #[cold]
     #[inline(never)]
     fn end(&mut self, extra: u32) -> Result<Option<BuiltFrame>, BuildError> {
         let Some(header) = self.header else {
@@ -214,17 +216,17 @@ impl FrameBuilder {
     #[inline(always)]
     fn hold_scalar(&mut self, event: &Event<'_>) -> Result<Option<BuiltFrame>, BuildError> {
         if self.is_between() {
-            return Err(BuildError::Misplaced);
+            return refuse(BuildError::Misplaced);
         }
         if self.is_full() {
-            return Err(BuildError::TooManyFields);
+            return refuse(BuildError::TooManyFields);
         }
         let size = content_size(event);
         if self.lacks_room(size) {
-            return Err(BuildError::TooManyBytes);
+            return refuse(BuildError::TooManyBytes);
         }
         if self.held.items.kit_push(event).is_err() {
-            return Err(BuildError::NoMemory);
+            return refuse(BuildError::NoMemory);
         }
         self.room -= size;
         Ok(None)
@@ -244,6 +246,13 @@ impl FrameBuilder {
     fn lacks_room(&self, size: usize) -> bool {
         size > self.room
     }
+}
+
+/// Refuses an event for this reason.
+#[cold]
+#[inline(never)]
+fn refuse(why: BuildError) -> Result<Option<BuiltFrame>, BuildError> {
+    Err(why)
 }
 
 /// Whether it is a part of a scalar of a cell.

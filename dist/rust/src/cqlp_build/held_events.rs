@@ -4,10 +4,10 @@
 use crate::kit_std::prelude::{KitVec, Vec};
 use crate::cqlp_build::item::{Content, Item, own};
 use crate::cqlp_build::misfit::is_impossible;
-use crate::cqlp_build::plain_cells::{is_next, is_of_kind, is_page, kind_at, step_of, take_cell};
+use crate::cqlp_build::plain_cells::{is_next, is_of_kind, is_page, kind_at, put_scalar, step_of, take_cell};
 use crate::cqlp_build_cells::own_scalar;
 use crate::cqlp_grammar::Event;
-use crate::cqlp_kind::Kind;
+use crate::cqlp_kind::{Kind, Scalar};
 use crate::cqlp_message::Metadata;
 use crate::cqlp_note::Field;
 use crate::cqlp_value::Value;
@@ -79,14 +79,46 @@ impl HeldEvents {
                 level: 0,
                 scalar,
             } => {
-                let atom = own_scalar(scalar)?;
-                self.push_cell(*row, *column, Value::Leaf(atom))
+                if self.put_cell(*row, *column, scalar)? {
+                    return Ok(());
+                }
+                self.push_scalar(*row, *column, scalar)
             }
             _ => self.push_other(event),
         }
     }
 
+    /// Adds the cell of a row and a column behind the others, which is this scalar, if it is the next of the run and the run has room for it, and
+    /// says whether it did so.
+    #[inline(always)]
+    fn put_cell(
+        &mut self,
+        row: u32,
+        column: u32,
+        scalar: &Scalar<'_>,
+    ) -> Result<bool, AllocError> {
+        if !is_next(row, column, self.last, &self.cells, self.taken, &self.tail) {
+            return Ok(false);
+        }
+        let kind = kind_at(&self.kinds, column);
+        put_scalar(&mut self.cells, kind, scalar)
+    }
+
+    /// Adds the cell of a row and a column behind the others, which is this scalar: mostly one of the run for which there is no room yet.
+    #[cold]
+    #[inline(never)]
+    fn push_scalar(
+        &mut self,
+        row: u32,
+        column: u32,
+        scalar: &Scalar<'_>,
+    ) -> Result<(), AllocError> {
+        let atom = own_scalar(scalar)?;
+        self.push_cell(row, column, Value::Leaf(atom))
+    }
+
     /// Adds an event behind the others, which is mostly no scalar of the run.
+    #[cold]
     #[inline(never)]
     fn push_other(&mut self, event: &Event<'_>) -> Result<(), AllocError> {
         match event {
@@ -108,7 +140,6 @@ impl HeldEvents {
     }
 
     /// Adds the cell of a row and a column behind the others, which is a plain value.
-    #[inline(always)]
     fn push_cell(&mut self, row: u32, column: u32, cell: Value) -> Result<(), AllocError> {
         if is_next(row, column, self.last, &self.cells, self.taken, &self.tail)
             && is_of_kind(&cell, kind_at(&self.kinds, column))

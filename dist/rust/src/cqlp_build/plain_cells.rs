@@ -1,13 +1,14 @@
 // Written by dist/erase from crates/cqlp_build/src/plain_cells.rt.
 //! Plain cells of pages: scalars, nulls and empty values, each of which is one event.
 
-use crate::kit_std::prelude::{Vec};
+use crate::kit_std::prelude::{KitString, KitVec, String, Vec};
 use crate::cqlp_build::item::Item;
-use crate::cqlp_build_cells::Step;
-use crate::cqlp_kind::Kind;
+use crate::cqlp_build_cells::{Step, own_scalar};
+use crate::cqlp_kind::{Kind, Scalar};
 use crate::cqlp_message::{Metadata, Spec};
 use crate::cqlp_type::TypeTree;
-use crate::cqlp_value::Value;
+use crate::cqlp_value::{Atom, Value};
+use crate::kit_std::alloc::{AllocError};
 use crate::kit_std::collections::VecDeque;
 use core::mem;
 
@@ -96,6 +97,77 @@ pub(crate) fn is_of_kind(value: &Value, kind: Kind) -> bool {
         Value::Empty => true,
         _ => false,
     }
+}
+
+/// Adds a scalar behind the cells, if it is one of this kind and they have room for it, and says whether it did so. The most common kinds have
+/// arms of their own.
+#[inline(always)]
+pub(crate) fn put_scalar(
+    cells: &mut Vec<Value>,
+    kind: Kind,
+    scalar: &Scalar<'_>,
+) -> Result<bool, AllocError> {
+    // Each asks for room right before it adds, so that the compiler leaves out what a push does without room, and writes the value in its place.
+    match *scalar {
+        Scalar::Int(number) if is(kind, Kind::Int) && has_room(cells) => {
+            cells.push_reserved(Value::Leaf(Atom::Int(number)));
+            Ok(true)
+        }
+        Scalar::Bigint(number) if is(kind, Kind::Bigint) && has_room(cells) => {
+            cells.push_reserved(Value::Leaf(Atom::Bigint(number)));
+            Ok(true)
+        }
+        Scalar::Boolean(value) if is(kind, Kind::Boolean) && has_room(cells) => {
+            cells.push_reserved(Value::Leaf(Atom::Boolean(value)));
+            Ok(true)
+        }
+        Scalar::Varchar(text) if is(kind, Kind::Varchar) && has_room(cells) => {
+            put_text(cells, text)
+        }
+        _ => put_any_scalar(cells, kind, scalar),
+    }
+}
+
+/// Adds a text behind the cells, for which they have room, as a varchar, if it is not empty, and says whether it did so.
+#[inline(always)]
+fn put_text(cells: &mut Vec<Value>, text: &str) -> Result<bool, AllocError> {
+    if text.is_empty() {
+        return Ok(false);
+    }
+    let text = String::from_str(text)?;
+    cells.push_reserved(Value::Leaf(Atom::Varchar(text)));
+    Ok(true)
+}
+
+/// Adds a scalar of any kind behind the cells, if it is one of this kind and they have room for it, and says whether it did so.
+#[cold]
+#[inline(never)]
+fn put_any_scalar(
+    cells: &mut Vec<Value>,
+    kind: Kind,
+    scalar: &Scalar<'_>,
+) -> Result<bool, AllocError> {
+    if !has_room(cells) {
+        return Ok(false);
+    }
+    let cell = Value::Leaf(own_scalar(scalar)?);
+    if !is_of_kind(&cell, kind) {
+        return Ok(false);
+    }
+    cells.push_reserved(cell);
+    Ok(true)
+}
+
+/// Whether they have room for one more.
+#[inline(always)]
+fn has_room(cells: &Vec<Value>) -> bool {
+    cells.len() < cells.capacity()
+}
+
+/// Whether a kind is this one.
+#[inline(always)]
+fn is(kind: Kind, this: Kind) -> bool {
+    kind == this
 }
 
 /// Takes the cell of this number, as the event that it is.
