@@ -1,7 +1,7 @@
 /* Puts the events of cells together to rows of Python values, as `_Cells` of _pages.py does, or to columns, as `_ColumnCells` of _columns.py
- * does: the same values, from the events where cqlp_next put them, or from the arrays that cqlp_columns_next filled. It calls nothing of
- * libcqlp. It is of the stable ABI, from Python 3.9 on, and bindings/build makes cqlp/_cells.abi3.so of it. Where that is not there, _pages.py
- * and _columns.py do it alone. */
+ * does: the same values, from the events where cqlp_next put them, or from the arrays that cqlp_columns_next filled. It is given where
+ * cqlp_next lies, and is linked with no library. It is of the stable ABI, from Python 3.9 on, and bindings/build makes cqlp/_cells.abi3.so of it.
+ * Where that is not there, _pages.py and _columns.py do it alone. */
 #define Py_LIMITED_API 0x03090000
 #define PY_SSIZE_T_CLEAN
 #include <Python.h>
@@ -10,6 +10,10 @@
 #include "cqlp.h"
 
 _Static_assert(sizeof(double) == 8 && sizeof(float) == 4, "floats are binary64 and binary32");
+
+typedef uint32_t next_call(cqlp_decoder *decoder, const uint8_t *input, size_t length, cqlp_event *events, size_t room, cqlp_batch *batch);
+
+enum { MANY = 4096 }; /* with how many events one reading ends, or a call's more */
 
 /* A list, set, map, tuple or udt whose items are still to come. */
 typedef struct items {
@@ -49,6 +53,7 @@ typedef struct cells {
   PyObject **row;    /* the cells of the row that is under way, where they go to rows */
   Py_ssize_t length; /* how many they are */
   Py_ssize_t room;   /* and how many have room */
+  int may_hold;      /* whether one of them may hold another value */
   items *open;       /* the values around the next one, the outermost first */
   Py_ssize_t depth;
   Py_ssize_t levels; /* for how many there is room */
@@ -106,20 +111,19 @@ static PyObject *binary(const cqlp_event *event) {
   return PyFloat_FromDouble(twice);
 }
 
-/* The value of a scalar. */
-static PyObject *leaf(cells *self, const cqlp_event *event) {
+/* An integer. Python makes one of few bits faster of a long. */
+static inline PyObject *integer(int64_t number) {
+#if LONG_MAX >= INT64_MAX
+  return PyLong_FromLong((long)number);
+#else
+  return PyLong_FromLongLong(number);
+#endif
+}
+
+/* The value of a scalar of another kind than most. */
+static PyObject *rare(cells *self, const cqlp_event *event) {
+  self->may_hold = 1;
   switch (event->kind) {
-  case CQLP_KIND_BIGINT:
-  case CQLP_KIND_COUNTER:
-  case CQLP_KIND_INT:
-  case CQLP_KIND_SMALLINT:
-  case CQLP_KIND_TINYINT:
-    return PyLong_FromLongLong(event->number);
-  case CQLP_KIND_BOOLEAN:
-    return PyBool_FromLong(event->number != 0);
-  case CQLP_KIND_ASCII:
-  case CQLP_KIND_VARCHAR:
-    return PyUnicode_DecodeUTF8((const char *)event->content, (Py_ssize_t)event->length, NULL);
   case CQLP_KIND_CUSTOM:
   case CQLP_KIND_BLOB:
   case CQLP_KIND_RAW:
@@ -131,6 +135,28 @@ static PyObject *leaf(cells *self, const cqlp_event *event) {
     return 0 < event->length && event->length <= 8 ? short_varint(event) : called(self, event);
   default:
     return called(self, event);
+  }
+}
+
+/* The value of a scalar. */
+static inline PyObject *leaf(cells *self, const cqlp_event *event) {
+  switch (event->kind) {
+  case CQLP_KIND_BIGINT:
+  case CQLP_KIND_COUNTER:
+  case CQLP_KIND_INT:
+  case CQLP_KIND_SMALLINT:
+  case CQLP_KIND_TINYINT:
+    return integer(event->number);
+  case CQLP_KIND_BOOLEAN: {
+    PyObject *truth = event->number != 0 ? Py_True : Py_False;
+    Py_INCREF(truth);
+    return truth;
+  }
+  case CQLP_KIND_ASCII:
+  case CQLP_KIND_VARCHAR:
+    return PyUnicode_DecodeUTF8((const char *)event->content, (Py_ssize_t)event->length, NULL);
+  default:
+    return rare(self, event);
   }
 }
 
@@ -260,8 +286,8 @@ static int put_item(cells *self, PyObject *item, int whole) {
 }
 
 /* Puts a cell into the row. The cell is taken. */
-static int put_cell(cells *self, PyObject *cell) {
-  if (!grow((void **)&self->row, self->length, &self->room, sizeof(PyObject *))) {
+static inline int put_cell(cells *self, PyObject *cell) {
+  if (self->length == self->room && !grow((void **)&self->row, self->length, &self->room, sizeof(PyObject *))) {
     Py_DECREF(cell);
     return 0;
   }
@@ -504,28 +530,32 @@ static int is_plain(PyObject *value) {
   return type == &PyLong_Type || type == &PyUnicode_Type || value == Py_None || type == &PyBool_Type || type == &PyFloat_Type || type == &PyBytes_Type;
 }
 
+/* Whether no cell of the row can hold another value. */
+static int is_plain_row(const cells *self) {
+  for (Py_ssize_t at = 0; self->may_hold && at < self->length; at++)
+    if (!is_plain(self->row[at])) return 0;
+  return 1;
+}
+
 /* Puts the row, which is whole, into the list, and begins the next. The collector of cycles need not know of one with plain values, as it would find too. */
 static int put_row(cells *self, PyObject *rows) {
   PyObject *row = PyTuple_New(self->length);
-  int plain = self->length > 0; /* the tuple without values is shared */
   if (row == NULL) return 0;
-  for (Py_ssize_t at = 0; at < self->length; at++) {
-    plain = plain && is_plain(self->row[at]);
-    PyTuple_SetItem(row, at, self->row[at]);
-  }
-  if (plain) PyObject_GC_UnTrack(row);
-  self->length = 0;
+  if (self->length > 0 && is_plain_row(self)) PyObject_GC_UnTrack(row); /* the tuple without values is shared */
+  for (Py_ssize_t at = 0; at < self->length; at++) PyTuple_SetItem(row, at, self->row[at]);
+  self->length = self->may_hold = 0;
   int done = PyList_Append(rows, row);
   Py_DECREF(row);
   return done == 0;
 }
 
-/* Takes an event of a cell. The rows that are whole go into the list. */
-static int add(cells *self, const cqlp_event *event, PyObject *rows) {
+/* Takes an event of a cell that is no scalar of a row, or an item, or of a column. The rows that are whole go into the list. */
+static int add_other(cells *self, const cqlp_event *event, PyObject *rows) {
   if (self->to_columns && self->length == self->begun && !begin_column(self)) return 0;
   column *of = self->to_columns ? &self->columns[self->length] : NULL;
   if (of != NULL && of->size > 0 && self->depth == 0) return put_number(of, event) && next_column(self);
   PyObject *value;
+  if (event->tag != CQLP_TAG_NULL) self->may_hold = 1;
   switch (event->tag) {
   case CQLP_TAG_LEAF:
     value = leaf(self, event);
@@ -556,6 +586,65 @@ static int add(cells *self, const cqlp_event *event, PyObject *rows) {
   return put_cell(self, value) && (self->length != self->width || put_row(self, rows));
 }
 
+/* The same of any event of a cell. Most are scalars of a row. */
+static inline int add(cells *self, const cqlp_event *event, PyObject *rows) {
+  if (event->tag != CQLP_TAG_LEAF || self->depth > 0 || self->to_columns) return add_other(self, event, rows);
+  PyObject *value = leaf(self, event);
+  if (value == NULL) return 0;
+  return put_cell(self, value) && (self->length != self->width || put_row(self, rows));
+}
+
+/* Whether so many events are each a scalar or a null, so that as many columns have a row of them. */
+static inline int are_of_row(const cqlp_event *events, Py_ssize_t width) {
+  for (Py_ssize_t at = 0; at < width; at++)
+    if (events[at].tag != CQLP_TAG_LEAF && events[at].tag != CQLP_TAG_NULL) return 0;
+  return 1;
+}
+
+/* The row of so many such events; NULL with an exception. The collector of cycles is to know of it where one of its values may hold another. */
+static PyObject *row_of(cells *self, const cqlp_event *events, Py_ssize_t width) {
+  PyObject *row = PyTuple_New(width);
+  int is_plain_so_far = 1;
+  if (row == NULL) return NULL;
+  PyObject_GC_UnTrack(row);
+  for (Py_ssize_t at = 0; at < width; at++) {
+    PyObject *value = Py_None;
+    if (events[at].tag == CQLP_TAG_LEAF) {
+      value = leaf(self, &events[at]);
+    } else {
+      Py_INCREF(value);
+    }
+    if (self->may_hold) {
+      is_plain_so_far = is_plain_so_far && value != NULL && is_plain(value);
+      self->may_hold = 0;
+    }
+    if (value == NULL || PyTuple_SetItem(row, at, value) < 0) {
+      Py_DECREF(row);
+      return NULL;
+    }
+  }
+  if (!is_plain_so_far) PyObject_GC_Track(row);
+  return row;
+}
+
+/* Takes so many events, from a place on, up to the first that is none of a cell. Most rows have scalars alone, and are made at once. */
+static int add_many(cells *self, const cqlp_event *events, Py_ssize_t *at, Py_ssize_t count, PyObject *rows) {
+  Py_ssize_t width = self->to_columns || self->width < 1 ? PY_SSIZE_T_MAX : self->width;
+  while (*at < count && CQLP_TAG_LEAF <= events[*at].tag && events[*at].tag <= CQLP_TAG_PART) {
+    if (count - *at < width || self->length > 0 || self->depth > 0 || self->parts != NULL || !are_of_row(events + *at, width)) {
+      if (!add(self, &events[(*at)++], rows)) return 0;
+      continue;
+    }
+    PyObject *row = row_of(self, events + *at, width);
+    if (row == NULL) return 0;
+    int done = PyList_Append(rows, row);
+    Py_DECREF(row);
+    if (done < 0) return 0;
+    *at += width;
+  }
+  return 1;
+}
+
 PyDoc_STRVAR(take_doc, "take(address, at, count): of so many events in memory, from this place on, those of cells; the rows that they end, "
                        "in a list, and the place of the first event that is none of a cell, or the count.");
 
@@ -568,13 +657,57 @@ static PyObject *cells_take(PyObject *object, PyObject *arguments) {
   if (events == NULL && PyErr_Occurred()) return NULL;
   PyObject *rows = PyList_New(0);
   if (rows == NULL) return NULL;
-  for (; at < count && CQLP_TAG_LEAF <= events[at].tag && events[at].tag <= CQLP_TAG_PART; at++) {
-    if (!add(self, &events[at], rows)) {
-      Py_DECREF(rows);
-      return NULL;
-    }
+  if (!add_many(self, events, &at, count, rows)) {
+    Py_DECREF(rows);
+    return NULL;
   }
   return Py_BuildValue("Nn", rows, at);
+}
+
+/* Reads events, and takes them, as `read` says. Answers 0 with an exception. */
+static int read_events(cells *self, next_call *next, void *const places[4], Py_ssize_t length, Py_ssize_t room, Py_ssize_t *at, uint32_t *code,
+                       PyObject *rows) {
+  const uint8_t *input = places[1];
+  cqlp_batch *batch = places[3];
+  size_t used = 0, taken = 0;
+  do {
+    Py_BEGIN_ALLOW_THREADS
+    *code = next(places[0], input + used, (size_t)length - used, places[2], (size_t)room, batch);
+    Py_END_ALLOW_THREADS
+    if (*code != CQLP_DONE) return 1;
+    used += batch->used;
+    taken += batch->events;
+    batch->used = used;
+    *at = 0;
+    if (!add_many(self, places[2], at, (Py_ssize_t)batch->events, rows)) return 0;
+  } while (*at == (Py_ssize_t)batch->events && batch->stop == CQLP_STOP_FULL && taken < MANY);
+  return 1;
+}
+
+PyDoc_STRVAR(read_doc, "read(next, decoder, place, length, events, room, batch): reads events into a room for so many, and takes them as `take` does, until "
+                       "one is left, a call does not fill the room, or some thousand came. `batch` speaks of the last call, but its `used` of all. "
+                       "Answers what `take` answers, the place among the events of the last call, and the code. `next` is where cqlp_next lies.");
+
+static PyObject *cells_read(PyObject *object, PyObject *arguments) {
+  cells *self = (cells *)object;
+  PyObject *words[5], *rows;
+  Py_ssize_t length, room, at = 0;
+  void *places[5];
+  uint32_t code = CQLP_DONE;
+  next_call *next;
+  if (!PyArg_ParseTuple(arguments, "OOOnOnO", &words[0], &words[1], &words[2], &length, &words[3], &room, &words[4])) return NULL;
+  for (int k = 0; k < 5; k++) {
+    places[k] = PyLong_AsVoidPtr(words[k]);
+    if (places[k] == NULL && PyErr_Occurred()) return NULL;
+    if (places[k] == NULL && k != 2) return PyErr_SetString(PyExc_ValueError, "nothing lies there"), NULL;
+  }
+  memcpy(&next, &places[0], sizeof next);
+  if ((rows = PyList_New(0)) == NULL) return NULL;
+  if (!read_events(self, next, places + 1, length, room, &at, &code, rows)) {
+    Py_DECREF(rows);
+    return NULL;
+  }
+  return Py_BuildValue("NnI", rows, at, (unsigned)code);
 }
 
 PyDoc_STRVAR(columns_doc, "columns(): of each column the bytes of its numbers, as this machine has them, or a list of its values; and a byte "
@@ -660,6 +793,7 @@ static void cells_dealloc(PyObject *object) {
 
 static PyMethodDef cells_methods[] = {
     {"take", cells_take, METH_VARARGS, take_doc},
+    {"read", cells_read, METH_VARARGS, read_doc},
     {"put", cells_put, METH_VARARGS, put_doc},
     {"columns", cells_columns, METH_NOARGS, columns_doc},
     {NULL, NULL, 0, NULL},
@@ -690,6 +824,7 @@ typedef struct rows {
   PyObject *found; /* the iterator */
   PyObject *now;   /* the list under way, or NULL */
   Py_ssize_t at;   /* which of its rows is the next */
+  Py_ssize_t size; /* how many it has; 0 where there is none */
 } rows;
 
 static int rows_init(PyObject *object, PyObject *arguments, PyObject *names) {
@@ -707,7 +842,7 @@ static int rows_init(PyObject *object, PyObject *arguments, PyObject *names) {
 /* While the iterator is asked another thread may be here, which it refuses: the list under way is exhausted then, and stays. */
 static PyObject *rows_next(PyObject *object) {
   rows *self = (rows *)object;
-  while (self->now == NULL || self->at >= PyList_Size(self->now)) {
+  while (self->at >= self->size) {
     PyObject *found = self->found;
     if (found == NULL) return NULL;
     Py_INCREF(found);
@@ -719,6 +854,7 @@ static PyObject *rows_next(PyObject *object) {
       before = self->now;
       self->now = next;
       self->at = 0;
+      self->size = PyList_Size(next);
     }
     Py_XDECREF(before);
   }
@@ -730,6 +866,7 @@ static PyObject *rows_next(PyObject *object) {
 static PyObject *rows_close(PyObject *object, PyObject *none) {
   rows *self = (rows *)object;
   (void)none;
+  self->at = self->size = 0;
   Py_CLEAR(self->now);
   if (self->found == NULL) Py_RETURN_NONE;
   return PyObject_CallMethod(self->found, "close", NULL);
@@ -743,8 +880,10 @@ static int rows_traverse(PyObject *object, visitproc visit, void *arg) {
 }
 
 static int rows_clear(PyObject *object) {
-  Py_CLEAR(((rows *)object)->found);
-  Py_CLEAR(((rows *)object)->now);
+  rows *self = (rows *)object;
+  self->at = self->size = 0;
+  Py_CLEAR(self->found);
+  Py_CLEAR(self->now);
   return 0;
 }
 

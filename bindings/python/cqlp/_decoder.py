@@ -149,6 +149,8 @@ def _named(names: Any) -> Tuple[Any, ...]:
 
 _TAGS, _FIELDS, _KINDS, _OPCODES, _MARKS, _REASONS = map(_named, (Tag, Field, Kind, Opcode, Mark, Reason))
 _FULL, _REFUSED = int(Stop.FULL), int(Stop.REFUSED)
+# Where the call lies that modules in C make.
+_NEXT = ctypes.cast(_native.library.cqlp_next, ctypes.c_void_p).value
 _LIMITS = {
     _native.BAD_TEXT: "text",
     _native.BAD_CELL: "cell",
@@ -227,6 +229,12 @@ class Placed:
     def __init__(self, array: Any, bytes: Any) -> None:
         self.address = ctypes.addressof(array)
         self.count = 0
+        self.cells: Any = None
+        """What makes rows of the events of cells as they come, of which none is then left here: a caller may set it."""
+        self.rows: List[Any] = []
+        """The rows that it made of those of the last call."""
+        self.at = 0
+        """How many events of the last call it took."""
         self._bytes = bytes
 
     def __len__(self) -> int:
@@ -288,6 +296,7 @@ class Decoder:
         self._array = (_native.Event * self._room)()
         self._bytes = (ctypes.c_char * ctypes.sizeof(self._array)).from_buffer(self._array)
         self._batch = _native.Batch()
+        self._place = Placed(self._array, self._bytes)
         self._filling: Optional[_native.Handle] = None
         """The columns that calls of the library fill, where they do: then they put one event at most."""
         new = _native.library.cqlp_new_lenient if lenient else _native.library.cqlp_new
@@ -392,10 +401,10 @@ class Decoder:
     def _placed(self, data: bytes, skip: Optional[Skip] = None) -> Iterator[Tuple[Placed, Refusal]]:
         """The same for a caller that is done with a batch before it asks for the next."""
         used, stop, base = 0, _FULL, _address(data)
-        batch = Placed(self._array, self._bytes)
+        batch = self._place
         while stop == _FULL:
             skipped = None
-            taken, stop, refusal = self._call(base, len(data), used)
+            taken, stop, refusal = self._read(base + used, len(data) - used) if batch.cells else self._call(base, len(data), used)
             if refusal and skip:
                 # the contents of a batch before a refusal lie in the piece, so they stay
                 stop, refusal, skipped = self._passed(refusal)
@@ -417,6 +426,17 @@ class Decoder:
             code = _native.library.cqlp_next(self._handle, base + used, length - used, self._array, self._room, batch)
         else:
             code = _native.library.cqlp_columns_next(self._handle, self._filling, base + used, length - used, self._array[0], batch)
+        if code:
+            _must_be_done(code)
+        stop = batch.stop
+        return batch.used, stop, self._refusal(batch) if stop == _REFUSED else None
+
+    def _read(self, place: int, length: int) -> Tuple[int, int, Refusal]:
+        """The same of some calls that put cells, of which rows are made as they come. The batch is that of the last one."""
+        batch, placed = self._batch, self._place
+        placed.rows, placed.at, code = placed.cells.read(
+            _NEXT, ctypes.addressof(self._handle), place, length, placed.address, self._room, ctypes.addressof(batch)
+        )
         if code:
             _must_be_done(code)
         stop = batch.stop

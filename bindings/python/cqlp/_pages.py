@@ -4,7 +4,7 @@ import threading
 from typing import Any, Dict, Iterator, List, Optional, Tuple, Union
 
 from . import _native
-from ._decoder import BadCall, Cut, Decoder, Limits, Record, Skip, event_of
+from ._decoder import BadCall, Cut, Decoder, Limits, Placed, Record, Skip, event_of
 from ._events import Event
 from ._sources import Batch, Progress, Source, _pieces, batches
 from ._turns import InUse
@@ -237,6 +237,10 @@ def _found(
     metadata, cells = _Metadata(), _cells(0, ())
     for batch in batches:
         at, count = 0, len(batch)
+        if isinstance(batch, Placed) and batch.cells:
+            if batch.rows:
+                yield batch.rows
+            at = batch.at
         while at < count:
             rows, at = cells.take(batch, at)
             if rows:
@@ -247,14 +251,22 @@ def _found(
             at += 1
             if event.tag == Tag.FRAME:
                 metadata = _Metadata()
+                _take_by(batch, None)
             elif event.field == Field.ROWS and metadata.kind == _ROWS_RESULT:
                 columns = tuple(metadata.columns)
                 if given and metadata.flags & _NO_METADATA and metadata.width == len(given):
                     columns = given
                 cells = _cells(metadata.width, tuple(column.type for column in columns) if typed else ())
+                _take_by(batch, cells)
                 yield Page(pages, columns, metadata.width, event.number, metadata.state)
             else:
                 metadata.add(event)
+
+
+def _take_by(batch: Batch, cells: "Union[_Cells, _CompiledCells, None]") -> None:
+    """Has events of cells made to rows as they come, from the next call on, or no more."""
+    if isinstance(batch, Placed):
+        batch.cells = cells
 
 
 def _cells(width: int, types: Tuple[Type, ...]) -> "Union[_Cells, _CompiledCells]":
@@ -269,6 +281,7 @@ class _CompiledCells:
     def __init__(self, width: int, types: Tuple[Type, ...], to_columns: bool = False) -> None:
         cells = _compiled.Cells(width, types, LEAVES, EMPTY, _frozen, to_columns)
         self._take = cells.take
+        self.read = cells.read
         self.put = cells.put
         self.columns = cells.columns
 

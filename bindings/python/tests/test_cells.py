@@ -93,6 +93,23 @@ class Cells(unittest.TestCase):
             self.assertEqual([gc.is_tracked(row) for row in cqlp.rows(wide)], [False, False])
         self.assertEqual([gc.is_tracked(row) for row in cqlp.rows(page([INT, b"\0\x20" + INT], [[NULL, list_of(NULL)]]))], [True])
 
+    def test_rows_with_values_of_each_sort(self) -> None:
+        """Rows of scalars and nulls are made at once, the others cell by cell; of a batch the last row may be cut."""
+        for wide in (1, 3, 300, 1500):
+            row, nulls = [cell(struct.pack(">i", 1 << 20))] * wide, [NULL] * wide
+            rows = [row, nulls, row[1:] + [NOTHING], [NOTHING] * wide, row[1:] + [NULL], row] * 20
+            self.same(page([INT] * wide, rows), pieces=(999, 1 << 20))
+
+    def test_what_cannot_be_read(self) -> None:
+        """Where nothing lies, nothing is read."""
+        cells = _pages._compiled.Cells(1, (), [], None, None)
+        for at in (0, 1, 4, 6):
+            words = [1, 1, 1, 0, 1, 1, 1]
+            words[at] = 0
+            self.assertRaises(ValueError, cells.read, *words)
+        self.assertRaises(TypeError, cells.read, "next", 1, 1, 0, 1, 1, 1)
+        self.assertRaises(TypeError, cells.read, 1)
+
     def test_streams(self) -> None:
         for stream in streams():
             with self.subTest(stream.name):
