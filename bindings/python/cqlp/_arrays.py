@@ -455,8 +455,7 @@ class _Reader:
         decoder, event, batch = self.decoder._handle, self.event, self.batch
         if self.page is None and _batches:
             code, found = _batches.before(_NEXT, self.places[0], place, length, *self.places[1:])
-            for record, content in found:
-                self.metadata.add(event_of(record, content))
+            self.metadata.add_found(found)
         elif self.nested:
             length = min(length, self.end - self.offset)
             *self.taken, code = self.nested.read(_NEXT, self.places[0], place, length, ctypes.addressof(self.many), _MANY, self.places[2])
@@ -584,11 +583,12 @@ class _Reader:
         raise Refused(*refusal, [], header=self.behind.header(refusal, ctypes.string_at(place, length)))
 
 
-def _places(source: Source, piece: int, of_frames: bool) -> Iterator[Tuple[int, int, Optional[int]]]:
-    """Where the pieces of a source lie, until the next is asked for, each with its length and the bytes of the whole."""
+def _places(source: Source, piece: int, of_frames: bool, at_once: bool) -> Iterator[Tuple[int, int, Optional[int]]]:
+    """Where the pieces of a source lie, until the next is asked for, each with its length and the bytes of the whole. Bytes that are there may come at
+    once: so no value is put together of pieces."""
     pieces = _pieces(source, piece)
     if type(source) is bytes and not of_frames:
-        return _places_in(source, piece)
+        return _places_in(source, max(piece, len(source)) if at_once else piece)
     return ((_address(data), len(data), total) for data, total in (_pieces_of_frames(pieces) if of_frames else pieces))
 
 
@@ -631,7 +631,7 @@ def arrays(
         raise ValueError('decimals is "decimal", "text" or "bytes"')
     if isinstance(columns, (str, bytes)):
         raise TypeError("columns is a list of names, and a %s is none" % type(columns).__name__)
-    places = _places(source, piece, types is not None)
+    places = _places(source, piece, types is not None, progress is None and skip is None)
     names = None if columns is None else frozenset(columns)
     return Batches(_batches_of(places, limits, min(rows, 1 << 24), memory, progress, types, skip, names, decimals))
 

@@ -142,9 +142,44 @@ static PyObject *record_of(const cqlp_event *event) {
                        event->length ? (const char *)event->content : "", (Py_ssize_t)event->length);
 }
 
-PyDoc_STRVAR(before_doc, "before(next, decoder, place, length, event, batch): reads events, one by one, up to the first that is a header, an end, the count of rows "
-                         "or of a cell, and at most 256. The last one, if one came, lies at `event`, and `batch` speaks of all. Answers the code of the call, "
-                         "and a list of those before it, each its members and its content. `next` is where cqlp_next lies.");
+/* Whether it is the option of a type that has no more to it. */
+static int is_plain_type(const cqlp_event *event) {
+  if (event->tag != CQLP_TAG_TYPE_NODE) return 0;
+  switch (event->kind) {
+  case CQLP_KIND_CUSTOM:
+  case CQLP_KIND_LIST:
+  case CQLP_KIND_SET:
+  case CQLP_KIND_MAP:
+  case CQLP_KIND_TUPLE:
+  case CQLP_KIND_UDT:
+    return 0;
+  default:
+    return 1;
+  }
+}
+
+/* Puts an event behind those that came: of a column's name its text, and of its type, where that is plain, the kind. */
+static int put(PyObject *found, const cqlp_event *event, int *is_name) {
+  PyObject *one;
+  if (*is_name && is_plain_type(event)) {
+    *is_name = 0;
+    one = PyLong_FromLong(event->kind);
+  } else if (event->tag == CQLP_TAG_TEXT && event->field == CQLP_FIELD_COLUMN_NAME) {
+    *is_name = 1;
+    one = PyUnicode_DecodeUTF8(event->length ? (const char *)event->content : "", (Py_ssize_t)event->length, NULL);
+  } else {
+    *is_name = 0;
+    one = record_of(event);
+  }
+  int done = one == NULL ? -1 : PyList_Append(found, one);
+  Py_XDECREF(one);
+  return done == 0;
+}
+
+PyDoc_STRVAR(before_doc, "before(next, decoder, place, length, event, batch): reads events, one by one, up to the first that is a header, an end, the "
+                         "count of rows or of a cell, and at most 256. The last one, if one came, lies at `event`, and `batch` speaks of all. Answers the "
+                         "code of the call, and a list of those before it: of a column's name its text, of its type right behind it the kind, where no more "
+                         "is to be said of that, and of another its members and its content. `next` is where cqlp_next lies.");
 
 static PyObject *before(PyObject *module, PyObject *arguments) {
   PyObject *words[5];
@@ -164,15 +199,14 @@ static PyObject *before(PyObject *module, PyObject *arguments) {
   PyObject *found = PyList_New(0);
   size_t used = 0;
   uint32_t code = CQLP_DONE;
+  int is_name = 0;
   for (int count = 0; found != NULL; count++) {
     code = next(places[1], input + used, (size_t)length - used, event, 1, batch);
     if (code != CQLP_DONE) break;
     used += batch->used;
     batch->used = used;
     if (batch->events == 0 || batch->stop != CQLP_STOP_FULL || count == MANY || !is_within(event)) break;
-    PyObject *one = record_of(event);
-    if (one == NULL || PyList_Append(found, one) < 0) Py_CLEAR(found);
-    Py_XDECREF(one);
+    if (!put(found, event, &is_name)) Py_CLEAR(found);
   }
   return found == NULL ? NULL : Py_BuildValue("IN", (unsigned)code, found);
 }

@@ -8,7 +8,7 @@ from ._decoder import BadCall, Cut, Decoder, Limits, Placed, Record, Skip, event
 from ._events import Event
 from ._sources import Batch, Progress, Source, _pieces, batches
 from ._turns import InUse
-from ._types import Column, Type, TypeReader
+from ._types import PLAIN, Column, Type, TypeReader
 from ._values import EMPTY, LEAVES, ValueOf
 from .numbers import Code, End, Field, Kind, Mark, Tag
 
@@ -174,6 +174,17 @@ class _Metadata:
         self.types = TypeReader()
         self.columns: List[Column] = []
 
+    def add_found(self, found: List[Any]) -> None:
+        """Takes what `before` of _batches.c found."""
+        words = self.words
+        for one in found:
+            if type(one) is int:
+                self.columns.append(Column(words.get(_KEYSPACE, ""), words.get(_TABLE, ""), words[_NAME], PLAIN[one]))
+            elif type(one) is str:
+                words[_NAME] = one
+            else:
+                self.add(event_of(*one))
+
     def add(self, event: Event) -> None:
         if self.types.open or event.tag == Tag.TYPE_NODE:
             whole = self.types.add(event)
@@ -225,7 +236,7 @@ class Types:
             raise BadCall(code)
 
 
-_SPEC = (Field.KEYSPACE, Field.TABLE, Field.COLUMN_NAME)
+_SPEC = _KEYSPACE, _TABLE, _NAME = Field.KEYSPACE, Field.TABLE, Field.COLUMN_NAME
 _LEAF, _NULL, _EMPTY, _ENTER, _LEAVE, _PART = map(int, (Tag.LEAF, Tag.NULL, Tag.EMPTY, Tag.ENTER, Tag.LEAVE, Tag.PART))
 
 

@@ -88,7 +88,7 @@ class _Open:
 
 
 # The types of scalars but the custom ones, which have a class.
-_PLAIN: Dict[int, Type] = {kind: Type(kind) for kind in Kind if kind not in _ARITY and kind not in (Kind.CUSTOM, Kind.TUPLE, Kind.UDT)}
+PLAIN: Dict[int, Type] = {kind: Type(kind) for kind in Kind if kind not in _ARITY and kind not in (Kind.CUSTOM, Kind.TUPLE, Kind.UDT)}
 
 
 class TypeReader:
@@ -100,8 +100,8 @@ class TypeReader:
     def add(self, event: Event) -> Optional[Type]:
         """The type, once it is whole."""
         if event.tag == Tag.TYPE_NODE:
-            if not self.open and event.kind in _PLAIN:
-                return _PLAIN[event.kind]
+            if not self.open and event.kind in PLAIN:
+                return PLAIN[event.kind]
             self.open.append(_Open(event.kind))
         elif event.tag == Tag.COUNT:
             self.open[-1].wanted = event.number
