@@ -17,7 +17,7 @@ use Rattle.cqlp_c.specs.CellFromC.{kind_in, leaf_from_c, scalar_from_c}
 use Rattle.cqlp_c.proofs.Conforming.{kind_conforms}
 use Rattle.cqlp_c.proofs.Written.{lt_false}
 
-as_leaf : (c : CqlpEvent) (content : List ℕ) → c.tag ≡ numbers.TAG_LEAF → event_with c content ≡ leaf_from_c c (kind_in c) content
+pub as_leaf : (c : CqlpEvent) (content : List ℕ) → c.tag ≡ numbers.TAG_LEAF → event_with c content ≡ leaf_from_c c (kind_in c) content
 as_leaf c content tag = rw tag refl
 
 leaf_event : (c : CqlpEvent) (k : Kind) (v : ScalarValue) (content : List ℕ) → IsLeaf c k → Some v ≡ scalar_from_c k c content → event_with c content ≡ Some (Cell_at c.row c.column (cell.Leaf 0 v))
@@ -37,7 +37,7 @@ leaf_read c k v contents l enough is =
     ∙ ap is_event (leaf_event c k v (take (content_len c) contents) l is)
 
 -- where it has fewer bytes than its length
-read_as : (c : CqlpEvent) (contents : List ℕ) (b : Bool) → c.tag ≡ numbers.TAG_LEAF → nat_lt (length contents) (content_len c) ≡ b
+pub read_as : (c : CqlpEvent) (contents : List ℕ) (b : Bool) → c.tag ≡ numbers.TAG_LEAF → nat_lt (length contents) (content_len c) ≡ b
     → event_from_c c contents ≡ (if b then Err bad_event.NoEvent else is_event (event_with c (take (content_len c) contents)))
 read_as c contents b tag long =
     ap (λ (p : Bool). if p then Err bad_event.Unbuilt else (if nat_lt (length contents) (content_len c) then Err bad_event.NoEvent else is_event (event_with c (take (content_len c) contents)))) (ap (λ (n : ℕ). n == numbers.TAG_PART) tag)

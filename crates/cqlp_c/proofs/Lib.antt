@@ -19,6 +19,7 @@ pub mod Handed
 pub mod HandedBack
 pub mod KindsNumbered
 pub mod Leaves
+pub mod LentCells
 pub mod Made
 pub mod Nexted
 pub mod OneBatch

@@ -91,6 +91,10 @@ pub record OpensWhole (head cs : List CqlpEvent) (contents : List ℕ) (w : Whol
 
 -- ---- what is put
 
+-- What C passes is a leaf that is a text or a blob.
+abbrev pub IsLent : CqlpEvent → Type 0
+IsLent c = (c.tag ≡ numbers.TAG_LEAF) × ((c.kind ≡ numbers.KIND_VARCHAR) ⊎ (c.kind ≡ numbers.KIND_BLOB))
+
 -- What C passes is an event of a cell whose bytes have room.
 abbrev pub IsWritable : CqlpEvent → (contents : List ℕ) → (n : ℕ) → Type 0
 IsWritable c contents n =

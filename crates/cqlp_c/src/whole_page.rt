@@ -4,7 +4,7 @@ ghost use Rattle.std.specs.Prelude.{◌≡◌, ◌++◌, ◌≤◌, IfSome, drop
 ghost use Rattle.cqlp_compose.specs.Composing.{composed};
 ghost use Rattle.cqlp_c.specs.FromC as from_c;
 ghost use Rattle.cqlp_c.specs.WholePages as model;
-ghost use Rattle.cqlp_c.specs.WholePages.{AreNextCells, AreWritable, IsCellOfKind, IsNextCell, IsWritable};
+ghost use Rattle.cqlp_c.specs.WholePages.{AreNextCells, AreWritable, IsCellOfKind, IsLent, IsNextCell, IsWritable};
 ghost use Rattle.cqlp_c.specs.WholePages.{EncodesPage, OpensPage, OpensWhole, PutsPage, ReadsRows};
 
 use crate::encode::{CqlpEncoded, longest, take_all};
@@ -14,7 +14,7 @@ use crate::numbers::*;
 use crate::versions::put;
 use cqlp_compose::{BarePage, Composer, put_event, scalar_size};
 use cqlp_grammar::Event;
-use cqlp_kind::Kind;
+use cqlp_kind::{Kind, Scalar};
 use cqlp_note::{Field, Header};
 use std::alloc::Global;
 
@@ -243,9 +243,8 @@ fn write_cell<'a>(c_event: &CqlpEvent, contents: &'a [u8], room: &mut [u8]) -> (
         match c_event.kind {
             KIND_INT => write_leaf(Kind::Int, c_event, contents, room),
             KIND_BIGINT => write_leaf(Kind::Bigint, c_event, contents, room),
-            KIND_VARCHAR => write_leaf(Kind::Varchar, c_event, contents, room),
+            KIND_VARCHAR | KIND_BLOB => write_lent(c_event, contents, room),
             KIND_BOOLEAN => write_leaf(Kind::Boolean, c_event, contents, room),
-            KIND_BLOB => write_leaf(Kind::Blob, c_event, contents, room),
             KIND_DOUBLE => write_leaf(Kind::Double, c_event, contents, room),
             KIND_TIMESTAMP => write_leaf(Kind::Timestamp, c_event, contents, room),
             KIND_UUID => write_leaf(Kind::Uuid, c_event, contents, room),
@@ -281,6 +280,26 @@ fn write_leaf<'a>(
         }
         None => write_any(c_event, contents, room),
     }
+}
+
+/// The same of a text or a blob: that it is one, was seen as it was measured.
+#[tactic(auto, using(crate::proofs::Leaves::read_long, crate::proofs::LentCells::lent_bytes))]
+#[inline(always)]
+fn write_lent<'a>(c_event: &CqlpEvent, contents: &'a [u8], room: &mut [u8]) -> (usize, &'a [u8])
+    requires lent { IsLent c_event.now }
+    requires writable { IsWritable c_event.now contents.now (length room.old) }
+    ensures len { result.0 ≡ length (model.cell_bytes c_event.now contents.now) }
+    ensures put { room.new ≡ model.cell_bytes c_event.now contents.now ++ drop result.0 room.old }
+    ensures rest { result.1.now ≡ drop (from_c.content_len c_event.now) contents.now }
+{
+    let (content, rest) = contents.split_at(content_len(c_event));
+    let event = Event::Leaf {
+        row: c_event.row,
+        column: c_event.column,
+        level: c_event.level,
+        scalar: Scalar::Blob(content),
+    };
+    (put_event(&event, room), rest)
 }
 
 /// The same of any event.
