@@ -15,7 +15,7 @@ use Rattle.cqlp_c.specs.declared.numbers.TheConstants as numbers
 use Rattle.cqlp_c.specs.Numbers.{kinds, number_of_kind}
 use Rattle.cqlp_c.specs.FromC.{content_len, event_from_c, event_with, is_event}
 use Rattle.cqlp_c.specs.CellFromC.{leaf_from_c, scalar_from_c}
-use Rattle.cqlp_c.specs.WholePages.{IsLent, cell_bytes, found_bytes}
+use Rattle.cqlp_c.specs.WholePages.{IsLent, IsWritable, cell_bytes, found_bytes}
 use Rattle.cqlp_c.proofs.Conforming.{kind_conforms}
 use Rattle.cqlp_c.proofs.Leaves.{as_leaf, read_as, read_long}
 use Rattle.cqlp_c.proofs.Written.{lt_false}
@@ -46,3 +46,7 @@ lent_bytes c contents e lent read =
     let content = take (content_len c) contents in
     let same : event_from_c c contents ≡ is_event (event_with c content) = read_as c contents false lent.0 (lt_false (length contents) (content_len c) (read_long c contents e read)) in
     ap found_bytes same ∙ by_kind c content e lent.0 lent.1 (sym same ∙ read)
+
+-- the same, of the content that was split off
+pub lent_is : (c : CqlpEvent) (contents content : List ℕ) (n m : ℕ) → IsLent c → IsWritable c contents m → n ≡ content_len c → content ≡ take n contents → cell_bytes c contents ≡ with_length content
+lent_is c contents content n m lent w is front = lent_bytes c contents w.0 lent w.1 ∙ ap (λ (k : ℕ). with_length (take k contents)) (sym is) ∙ ap with_length (sym front)

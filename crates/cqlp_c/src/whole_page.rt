@@ -283,7 +283,7 @@ fn write_leaf<'a>(
 }
 
 /// The same of a text or a blob: that it is one, was seen as it was measured.
-#[tactic(auto, using(crate::proofs::Leaves::read_long, crate::proofs::LentCells::lent_bytes))]
+#[tactic(auto, using(crate::proofs::Leaves::read_long))]
 #[inline(always)]
 fn write_lent<'a>(c_event: &CqlpEvent, contents: &'a [u8], room: &mut [u8]) -> (usize, &'a [u8])
     requires lent { IsLent c_event.now }
