@@ -363,8 +363,7 @@ TYPES = {
     "statement_is_whole": FLAG, "values": {list}, "values_are_whole": FLAG, "consistency": NAMED, "page_size": WHOLE, "has_paging_state": FLAG,
     "response": TEXT, "response_bytes": WHOLE, "response_is_whole": FLAG, "response_is_compressed": FLAG, "result": NAMED, "error": NAMED, "message": TEXT,
     "message_is_whole": FLAG, "details": {dict}, "rows": WHOLE, "columns": WHOLE, "has_more_pages": FLAG, "warnings": WHOLE, "warning": TEXT,
-    "warning_is_whole": FLAG, "tracing_id": TEXT, "took": REAL,
-    "connection_end": TEXT,
+    "warning_is_whole": FLAG, "tracing_id": TEXT, "took": REAL, "connection_end": TEXT,
 }
 
 
