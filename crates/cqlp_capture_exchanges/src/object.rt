@@ -454,7 +454,18 @@ fn put_message<P: Pen>(
         Some(Statement::Id { .. }) => {
             put_message_as(writer, Value::Null, none_whole(is_given_up))
         }
-        None => put_message_as(writer, Value::Null, none_whole(is_given_up)),
+        None => put_no_message(writer, is_given_up),
+    }
+}
+
+/// The same where there is none, in one go where that is known, as it mostly is.
+fn put_no_message<P: Pen>(writer: &mut TextWriter<P>, is_given_up: bool) -> Result<(), SinkFault>
+    ensures { Writes writer.old (texts (message_members is_given_up None)) result writer.new }
+{
+    if is_given_up {
+        put_message_as(writer, Value::Null, Value::Flag(false))
+    } else {
+        writer.put(b",\"message\":null,\"message_is_whole\":null")
     }
 }
 
@@ -503,7 +514,18 @@ fn put_warning<P: Pen>(
         Some(Statement::Id { .. }) => {
             put_warning_as(writer, Value::Null, none_whole(is_given_up))
         }
-        None => put_warning_as(writer, Value::Null, none_whole(is_given_up)),
+        None => put_no_warning(writer, is_given_up),
+    }
+}
+
+/// The same where there is none, in one go where that is known, as it mostly is.
+fn put_no_warning<P: Pen>(writer: &mut TextWriter<P>, is_given_up: bool) -> Result<(), SinkFault>
+    ensures { Writes writer.old (texts (warning_members is_given_up None)) result writer.new }
+{
+    if is_given_up {
+        put_warning_as(writer, Value::Null, Value::Flag(false))
+    } else {
+        writer.put(b",\"warning\":null,\"warning_is_whole\":null")
     }
 }
 
@@ -526,6 +548,9 @@ fn put_warning_as<P: Pen>(
 fn put_tracing<P: Pen>(writer: &mut TextWriter<P>, facts: &Facts) -> Result<(), SinkFault>
     ensures { Writes writer.old (texts (tracing_members facts.now)) result writer.new }
 {
+    if facts.trace_id.is_none() {
+        return writer.put(b",\"tracing_id\":null");
+    }
     put_members(
         writer,
         &[Member(",\"tracing_id\":", uuid_or_null(facts.trace_id))],
