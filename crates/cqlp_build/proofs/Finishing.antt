@@ -17,7 +17,9 @@ use Rattle.cqlp_note.specs.Heading.{answers, same}
 use Rattle.cqlp_message.specs.Agreement.{has_its_cells, opcode_of}
 use Rattle.std.specs.Prelude.{IsTrue, false}
 use Rattle.std.proofs.Common.{◌↔◌}
-use Rattle.cqlp_build.specs.Building.{BuilderState, TakesEvent, empty, is_due, AreEventsOf, AreOfNone, BeginsWith, CanBeBuilt, Finishes, HaveNoParts, IsOfHeader, Reports, has_fit_cells}
+use Rattle.cqlp_message.specs.Owned.{frame_of}
+use Rattle.cqlp_build.specs.declared.builder.BuiltFrame.{BuiltFrame}
+use Rattle.cqlp_build.specs.Building.{BuilderState, IsBuiltOf, TakesEvent, empty, is_due, AreEventsOf, AreOfNone, BeginsWith, CanBeBuilt, Finishes, HaveNoParts, IsOfHeader, Reports, has_fit_cells}
 use Rattle.cqlp_build.specs.declared.error.BuildError.{BuildError}
 use Rattle.cqlp_build.specs.declared.error.BuildError.TheVariants as error
 use Rattle.cqlp_build.specs.FrameEvents.{Builds, IsRefused, IsSound, left}
@@ -214,3 +216,13 @@ directed_by f h x b i =
 
 pub not_directed : (f : FrameValue) (h : Header) (x : ℕ) (r : Bool) → r ≡ false → (IsOfHeader f h x → r ≡ true) → (IsTrue r ↔ IsOfHeader f h x)
 not_directed f h x r e g = (λ t. let d : true ≡ false = sym t ∙ e in absurd cc, λ i. g i)
+
+-- what is built of events is the same frame after it was measured
+pub rebuilt : (es : List Event) {b : BuiltFrame} (f : FrameValue) (x : ℕ) → f ≡ frame_of b.frame → x ≡ b.extra
+    → (AreEventsOf es f x) × (CanBeBuilt f) × ((g : FrameValue) (y : ℕ) → CanBeBuilt g → AreEventsOf es g y → (g ≡ f) × (y ≡ x)) → IsBuiltOf es b
+rebuilt es {b} f x e d t =
+    record {
+      are = subst (λ (k : ℕ). AreEventsOf es (frame_of b.frame) k) d (subst (λ (k : FrameValue). AreEventsOf es k x) e t.0);
+      can = subst CanBeBuilt e t.1;
+      only = λ g y c a. let o = t.2 g y c a in (o.0 ∙ e, o.1 ∙ d);
+    }

@@ -3,6 +3,8 @@ pub mod Several
 pub mod Counted
 pub mod Optional
 pub mod Plain
+pub mod Sized
+pub mod PageLens
 pub mod OfKinds
 pub mod PutCells
 pub mod RequestParts

@@ -1,6 +1,7 @@
 pub mod Emitted
 pub mod Held
 pub mod Plain
+pub mod CellSizes
 pub mod Run
 pub mod WholePage
 pub mod FrameEvents

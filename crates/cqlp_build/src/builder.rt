@@ -7,12 +7,14 @@ ghost use Rattle.cqlp_build.specs.declared.error.BuildError.TheVariants as error
 ghost use Rattle.cqlp_build.specs.Building as building;
 ghost use Rattle.cqlp_build.specs.Building.{BeginsWith, Finishes, IsOfHeader, TakesEvent, Reports, empty, is_inner, is_leaf, state};
 ghost use Rattle.cqlp_build.specs.Closing.{Closes, ClosesAt, IsOfSome, ReportsOf};
-ghost use Rattle.cqlp_build.specs.FrameEvents.{left};
+ghost use Rattle.cqlp_build.specs.CellSizes.{IsSized};
+ghost use Rattle.cqlp_build.specs.FrameEvents.{IsSound, left};
 ghost use Rattle.cqlp_build.specs.Nesting.{depth_at};
 ghost use Rattle.cqlp_note.specs.Heading.{answers, same};
 ghost use Rattle.cqlp_message.specs.Owned.{frame_of};
 
 use crate::error::BuildError;
+use crate::frame_len::frame_len;
 use crate::held::{Fault, FrameEvents};
 use crate::held_events::HeldEvents;
 use crate::nesting::Nesting;
@@ -87,6 +89,7 @@ impl FrameBuilder {
                 alloc,
                 items: HeldEvents::new(alloc),
                 cell: CellEvents::new(alloc),
+                cells_size: None,
                 fault: None,
             },
             header: None,
@@ -334,16 +337,18 @@ impl FrameEvents {
         ensures { Finishes header.now extra (left self.old) result }
     {
         self.fault = None;
-        let frame = self.frame(header);
-        match self.verdict(&frame, header, extra) {
+        let mut frame = self.frame(header);
+        match self.verdict(&mut frame, header, extra) {
             None => Ok(BuiltFrame { frame, extra }),
             Some(why) => Err(why),
         }
     }
 
     /// Why a frame is not the one whose events were held, if it is not: after all of its parts were taken.
-    fn verdict(&self, frame: &Frame, header: &Header, extra: u32) -> Option<BuildError>
-        ensures { Reports header.now extra (frame_of frame.now) self.now result }
+    fn verdict(&self, frame: &mut Frame, header: &Header, extra: u32) -> Option<BuildError>
+        requires { IsSound self.now → IsSized self.now.cells_size (frame_of frame.old).message }
+        ensures is { Reports header.now extra (frame_of frame.old) self.now result }
+        ensures same { frame_of frame.new ≡ frame_of frame.old }
     {
         match self.fault {
             Some(Fault::NoMemory) => return Some(BuildError::NoMemory),
@@ -353,7 +358,7 @@ impl FrameEvents {
         if !self.items.is_empty() {
             return Some(BuildError::NoFrame);
         }
-        if !is_of(frame, header, extra) {
+        if !is_of(self.alloc, frame, self.cells_size, header, extra) {
             return Some(BuildError::NoFrame);
         }
         None
@@ -366,16 +371,18 @@ impl FrameEvents {
         ensures { ClosesAt header.now (left self.old) result }
     {
         self.fault = None;
-        let frame = self.frame(header);
-        match self.refusal(&frame, header) {
+        let mut frame = self.frame(header);
+        match self.refusal(&mut frame, header) {
             None => Ok(frame),
             Some(why) => Err(why),
         }
     }
 
     /// Why a frame is not one whose events were held, whatever its length, if it is not: after all of its parts were taken.
-    fn refusal(&self, frame: &Frame, header: &Header) -> Option<BuildError>
-        ensures { ReportsOf header.now (frame_of frame.now) self.now result }
+    fn refusal(&self, frame: &mut Frame, header: &Header) -> Option<BuildError>
+        requires { IsSound self.now → IsSized self.now.cells_size (frame_of frame.old).message }
+        ensures is { ReportsOf header.now (frame_of frame.old) self.now result }
+        ensures same { frame_of frame.new ≡ frame_of frame.old }
     {
         match self.fault {
             Some(Fault::NoMemory) => return Some(BuildError::NoMemory),
@@ -385,29 +392,39 @@ impl FrameEvents {
         if !self.items.is_empty() {
             return Some(BuildError::NoFrame);
         }
-        if !can_begin(frame, header) {
+        if !can_begin(self.alloc, frame, self.cells_size, header) {
             return Some(BuildError::NoFrame);
         }
         None
     }
 }
 
-/// Whether some bytes spell a frame that begins with this header, but for its length.
-fn can_begin(frame: &Frame, header: &Header) -> bool
-    ensures { BeginsWith header.now (frame_of frame.now) → (IsTrue result ↔ IsOfSome header.now (frame_of frame.now)) }
+/// Whether some bytes spell a frame that begins with this header, but for its length. It has a page's cells of so many bytes, where that is known.
+fn can_begin(alloc: Global, frame: &mut Frame, cells_size: Option<u64>, header: &Header) -> bool
+    requires { IsSized cells_size (frame_of frame.old).message }
+    ensures is { BeginsWith header.now (frame_of frame.old) → (IsTrue result ↔ IsOfSome header.now (frame_of frame.old)) }
+    ensures same { frame_of frame.new ≡ frame_of frame.old }
 {
-    match frame.measure() {
-        Ok(_) => is_directed(header),
-        Err(_) => false,
+    match frame_len(alloc, frame, cells_size) {
+        Some(_) => is_directed(header),
+        None => false,
     }
 }
 
 /// Whether some bytes spell a frame that begins with this header, and the header's length is the frame's where this many bytes come after
-/// its last field.
-fn is_of(frame: &Frame, header: &Header, extra: u32) -> bool
-    ensures { BeginsWith header.now (frame_of frame.now) → (IsTrue result ↔ IsOfHeader (frame_of frame.now) header.now extra) }
+/// its last field. It has a page's cells of so many bytes, where that is known.
+fn is_of(
+    alloc: Global,
+    frame: &mut Frame,
+    cells_size: Option<u64>,
+    header: &Header,
+    extra: u32,
+) -> bool
+    requires { IsSized cells_size (frame_of frame.old).message }
+    ensures is { BeginsWith header.now (frame_of frame.old) → (IsTrue result ↔ IsOfHeader (frame_of frame.old) header.now extra) }
+    ensures same { frame_of frame.new ≡ frame_of frame.old }
 {
-    let Ok(len) = frame.measure() else {
+    let Some(len) = frame_len(alloc, frame, cells_size) else {
         return false;
     };
     is_directed(header) && is_length(header.length, len, extra)

@@ -11,7 +11,8 @@ ghost use Rattle.cqlp_message.specs.Frames.{frame_parts};
 ghost use Rattle.cqlp_message.specs.Owned.{bytes_of, frame_of, texts_of};
 ghost use Rattle.cqlp_message.specs.Parts.{Field_is};
 ghost use Rattle.cqlp_build.specs.Building.{BeginsWith};
-ghost use Rattle.cqlp_build.specs.FrameEvents.{Builds};
+ghost use Rattle.cqlp_build.specs.CellSizes.{IsSized};
+ghost use Rattle.cqlp_build.specs.FrameEvents.{Builds, IsSound};
 ghost use Rattle.cqlp_build.specs.Emitted.{payload_parts, emitted};
 
 use crate::held::{FrameEvents, has_flag};
@@ -22,7 +23,8 @@ use cqlp_note::{Field, Header};
 impl FrameEvents {
     /// Takes the frame of this header.
     pub fn frame(&mut self, header: &Header) -> Frame
-        ensures { Builds (λ f. emitted (frame_parts f)) (BeginsWith header.now) (frame_of result) self.old self.new }
+        ensures is { Builds (λ f. emitted (frame_parts f)) (BeginsWith header.now) (frame_of result) self.old self.new }
+        ensures sized { IsSound self.new → IsSized self.new.cells_size (frame_of result).message }
     {
         self.check(!has_flag(header.flags, 0x01));
         let tracing = self.tracing_if(announces(header, 0x02));

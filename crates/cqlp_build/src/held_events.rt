@@ -1,10 +1,11 @@
 //! The events of a frame, as they are held: those of the first plain cells of a page as their values.
 
 ghost use Rattle.std.specs.Prelude.{◌≡◌, ◌==◌, ◌+◌, ◌^◌, ◌-◌, ◌++◌, ◌∷◌, if◌then◌else◌};
-ghost use Rattle.std.specs.Prelude.{[], MatchOption, OnErr, OnOk, is_ok, length, map, min, option_map, option_to_list};
+ghost use Rattle.std.specs.Prelude.{[], IfSome, MatchOption, OnErr, OnOk, is_ok, length, map, min, option_map, option_to_list};
 ghost use Rattle.cqlp_grammar.specs.Events.{event_of};
 ghost use Rattle.cqlp_kind.specs.Contents.{value_of};
 ghost use Rattle.cqlp_message.specs.Owned.{metadata_of};
+ghost use Rattle.cqlp_build.specs.CellSizes.{IsSizeOf};
 ghost use Rattle.cqlp_build.specs.FrameEvents.{IsHeld, item_event};
 ghost use Rattle.cqlp_build.specs.declared.item.Item.TheVariants as item;
 ghost use Rattle.cqlp_build.specs.Plain as plain;
@@ -13,7 +14,9 @@ ghost use Rattle.cqlp_build.specs.WholePage.{TakesPage};
 
 use crate::item::{Content, Item, own};
 use crate::misfit::is_impossible;
-use crate::plain_cells::{is_next, is_of_kind, is_page, kind_at, put_scalar, step_of, take_cell};
+use crate::plain_cells::{
+    is_next, is_of_kind, is_page, kind_at, put, put_scalar, step_of, take_cell,
+};
 use cqlp_build_cells::own_scalar;
 use cqlp_grammar::Event;
 use cqlp_kind::{Kind, Scalar};
@@ -33,6 +36,8 @@ use std::mem;
 pub(crate) struct HeldEvents {
     head: VecDeque<Item>,
     cells: Vec<Value>,
+    /// How many bytes the cells of the run have, each with its length; 2^64 - 1 where they have more.
+    size: u64,
     /// The kinds of the type options before the run, which are those of its columns where no option has others in it.
     kinds: Vec<Kind>,
     /// How many cells of the run were taken.
@@ -62,6 +67,7 @@ impl HeldEvents {
         HeldEvents {
             head: VecDeque::new(alloc),
             cells: Vec::new(alloc),
+            size: 0,
             kinds: Vec::new(alloc),
             taken: 0,
             last: 0,
@@ -75,6 +81,7 @@ impl HeldEvents {
     {
         self.head.clear();
         self.cells.clear();
+        self.size = 0;
         self.kinds.clear();
         self.taken = 0;
         self.last = 0;
@@ -139,7 +146,7 @@ impl HeldEvents {
             return Ok(false);
         }
         let kind = kind_at(&self.kinds, column);
-        put_scalar(alloc, &mut self.cells, kind, scalar)
+        put_scalar(alloc, &mut self.cells, &mut self.size, kind, scalar)
     }
 
     /// Adds the cell of a row and a column behind the others, which is this scalar: mostly one of the run for which there is no room yet.
@@ -194,7 +201,7 @@ impl HeldEvents {
             && is_of_kind(&cell, kind_at(&self.kinds, column))
         {
             self.cells.reserve(1)?;
-            self.cells.push_reserved(cell);
+            put(&mut self.cells, &mut self.size, cell);
             return Ok(());
         }
         self.push_item(Item::Cell {
@@ -242,9 +249,16 @@ impl HeldEvents {
         self.tail.pop_front()
     }
 
-    /// Takes the cells of this many rows as they lie there, where they are all that there is, and each is a plain value of its column's type.
-    pub fn take_page(&mut self, alloc: Global, rows: u32, meta: &Metadata) -> Option<Vec<Value>>
-        ensures { TakesPage (metadata_of meta.now) rows (option_map (λ cells. cells.items) result) self.old self.new }
+    /// Takes the cells of this many rows as they lie there, where they are all that there is, and each is a plain value of its column's type; and
+    /// answers how many bytes they have, each with its length.
+    pub fn take_page(
+        &mut self,
+        alloc: Global,
+        rows: u32,
+        meta: &Metadata,
+    ) -> Option<(Vec<Value>, u64)>
+        ensures taken { TakesPage (metadata_of meta.now) rows (option_map (λ page. page.0.items) result) self.old self.new }
+        ensures sized { IfSome result (λ page. IsSizeOf page.1 page.0.items) }
     {
         if !self.head.is_empty() || !self.tail.is_empty() {
             return None;
@@ -252,7 +266,10 @@ impl HeldEvents {
         if !is_page(rows, meta, self.last, &self.cells, self.taken, &self.kinds) {
             return None;
         }
-        Some(mem::replace(&mut self.cells, Vec::new(alloc)))
+        let cells = mem::replace(&mut self.cells, Vec::new(alloc));
+        let size = self.size;
+        self.size = 0;
+        Some((cells, size))
     }
 
     /// How many come before the first that is in no frame, whatever comes before it.

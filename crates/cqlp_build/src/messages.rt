@@ -1,6 +1,8 @@
 //! Messages.
 
 ghost use Rattle.cqlp_message.specs.Owned.{message_of};
+ghost use Rattle.cqlp_build.specs.CellSizes.{IsSized};
+ghost use Rattle.cqlp_build.specs.FrameEvents.{IsSound};
 ghost use Rattle.cqlp_build.specs.Productions.{BuildsMessage};
 
 use crate::held::{FrameEvents, has_flag};
@@ -12,7 +14,8 @@ use cqlp_note::{Field, Opcode};
 impl FrameEvents {
     /// Takes the message of a frame of this opcode.
     pub fn message(&mut self, opcode: Opcode) -> Message
-        ensures { BuildsMessage opcode (message_of result) self.old self.new }
+        ensures is { BuildsMessage opcode (message_of result) self.old self.new }
+        ensures sized { IsSound self.new → IsSized self.new.cells_size (message_of result) }
     {
         match opcode {
             Opcode::Startup => self.startup(),
@@ -131,7 +134,8 @@ impl FrameEvents {
 
     /// Takes a result.
     fn result(&mut self) -> Message
-        ensures { BuildsMessage Opcode.Result (message_of result) self.old self.new }
+        ensures is { BuildsMessage Opcode.Result (message_of result) self.old self.new }
+        ensures sized { IsSized self.new.cells_size (message_of result) }
     {
         let kind = self.int(Field::ResultKind);
         match kind.cast_unsigned() {

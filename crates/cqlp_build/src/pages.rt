@@ -7,6 +7,7 @@ ghost use Rattle.cqlp_value.specs.Owned.{value_of};
 ghost use Rattle.cqlp_value.specs.Values.{Values};
 ghost use Rattle.cqlp_message.specs.Bodies.{cell_types, page_parts};
 ghost use Rattle.cqlp_message.specs.Owned.{metadata_of, page_of};
+ghost use Rattle.cqlp_build.specs.CellSizes.{AreSized};
 ghost use Rattle.cqlp_build.specs.FrameEvents.{Builds, IsSound};
 ghost use Rattle.cqlp_build.specs.Productions.{AreCells, AreReadable, BuildsCell, BuildsRow, Gathers, IsPage, KeepsFault, cells_parts, column_type, fault_of};
 ghost use Rattle.cqlp_build.specs.Emitted.{emitted};
@@ -23,7 +24,8 @@ use cqlp_value::Value;
 impl FrameEvents {
     /// Takes a page.
     pub fn page(&mut self) -> Rows
-        ensures { Builds (λ p. emitted (page_parts p)) IsPage (page_of result) self.old self.new }
+        ensures is { Builds (λ p. emitted (page_parts p)) IsPage (page_of result) self.old self.new }
+        ensures sized { AreSized self.new.cells_size (page_of result).cells }
     {
         let meta = self.metadata();
         let rows = self.count(Field::Rows);
@@ -31,18 +33,31 @@ impl FrameEvents {
         Rows { meta, rows, cells }
     }
 
-    /// Takes the cells of this many rows.
+    /// Takes the cells of this many rows, and keeps how many bytes they have, where that was counted.
     fn cells(&mut self, rows: u32, meta: &Metadata) -> Vec<Value>
         requires { IsSound self.old → AreReadable (metadata_of meta.now) }
-        ensures { Builds (λ vs. emitted (cells_parts (metadata_of meta.now) rows vs)) (AreCells (metadata_of meta.now) rows)
+        ensures is { Builds (λ vs. emitted (cells_parts (metadata_of meta.now) rows vs)) (AreCells (metadata_of meta.now) rows)
             (map value_of result.items) self.old self.new }
+        ensures sized { AreSized self.new.cells_size (map value_of result.items) }
+    {
+        let (cells, size) = self.sized_cells(rows, meta);
+        self.cells_size = size;
+        cells
+    }
+
+    /// Takes the cells of this many rows, and answers how many bytes they have, where that was counted.
+    fn sized_cells(&mut self, rows: u32, meta: &Metadata) -> (Vec<Value>, Option<u64>)
+        requires { IsSound self.old → AreReadable (metadata_of meta.now) }
+        ensures is { Builds (λ vs. emitted (cells_parts (metadata_of meta.now) rows vs)) (AreCells (metadata_of meta.now) rows)
+            (map value_of result.0.items) self.old self.new }
+        ensures sized { AreSized result.1 (map value_of result.0.items) }
     {
         if self.fault.is_some() {
-            return self.rows(rows, meta);
+            return (self.rows(rows, meta), None);
         }
         match self.items.take_page(self.alloc, rows, meta) {
-            Some(cells) => cells,
-            None => self.rows(rows, meta),
+            Some((cells, size)) => (cells, Some(size)),
+            None => (self.rows(rows, meta), None),
         }
     }
 

@@ -1,6 +1,6 @@
 //! Plain cells of pages: scalars, nulls and empty values, each of which is one event.
 
-ghost use Rattle.std.specs.Prelude.{◌≡◌, ◌+◌, ◌*◌, ◌/◌, ◌%◌, ◌^◌, ◌<◌, ◌∷◌, [], IsTrue, drop, length, map, true, vec_capacity, vec_len};
+ghost use Rattle.std.specs.Prelude.{◌≡◌, ◌+◌, ◌*◌, ◌/◌, ◌%◌, ◌^◌, ◌<◌, ◌++◌, ◌∷◌, [], IsTrue, drop, length, map, true, vec_capacity, vec_len};
 ghost use Rattle.cqlp_kind.specs.Contents.{value_of};
 ghost use Rattle.cqlp_kind.specs.Scalars.{Varchar};
 ghost use Rattle.cqlp_kind.specs.declared.kind.Kind.TheVariants as kind;
@@ -8,6 +8,7 @@ ghost use Rattle.cqlp_type.specs.declared.tree.TypeTree.{Plain};
 ghost use Rattle.cqlp_value.specs.declared.value.Value.{Value};
 ghost use Rattle.cqlp_message.specs.Bodies.{cell_types, column_types};
 ghost use Rattle.cqlp_message.specs.Owned.{metadata_of, spec_of};
+ghost use Rattle.cqlp_build.specs.CellSizes.{IsSizeOf};
 ghost use Rattle.cqlp_build.specs.Plain as plain;
 ghost use Rattle.cqlp_build.specs.Plain.{cell_item, kind_types};
 ghost use Rattle.cqlp_build.specs.Putting.{PutsScalar};
@@ -17,7 +18,7 @@ use cqlp_build_cells::{Step, own_scalar};
 use cqlp_kind::{Kind, Scalar};
 use cqlp_message::{Metadata, Spec};
 use cqlp_type::TypeTree;
-use cqlp_value::{Atom, Value};
+use cqlp_value::{Atom, Value, value_size};
 use std::alloc::{AllocError, Global};
 use std::collections::VecDeque;
 use std::mem;
@@ -129,62 +130,73 @@ pub(crate) fn is_of_kind(value: &Value, kind: Kind) -> bool
     }
 }
 
-/// Adds a scalar behind the cells, if it is one of this kind and they have room for it, and says whether it did so. The most common kinds have
-/// arms of their own.
+/// Adds a scalar behind the cells, and its bytes to their size, if it is one of this kind and they have room for it, and says whether it did so. The
+/// most common kinds have arms of their own.
 #[inline(always)]
 pub(crate) fn put_scalar(
     alloc: Global,
     cells: &mut Vec<Value>,
+    size: &mut u64,
     kind: Kind,
     scalar: &Scalar<'_>,
 ) -> Result<bool, AllocError>
-    ensures { PutsScalar kind (value_of scalar.now) result cells.old.items cells.new.items }
+    ensures put { PutsScalar kind (value_of scalar.now) result cells.old.items cells.new.items }
+    ensures sized { IsSizeOf size.old cells.old.items → IsSizeOf size.new cells.new.items }
 {
     // Each asks for room right before it adds, so that the compiler leaves out what a push does without room, and writes the value in its place.
     match *scalar {
         Scalar::Int(number) if is(kind, Kind::Int) && has_room(cells) => {
-            cells.push_reserved(Value::Leaf(Atom::Int(number)));
+            put(cells, size, Value::Leaf(Atom::Int(number)));
             Ok(true)
         }
         Scalar::Bigint(number) if is(kind, Kind::Bigint) && has_room(cells) => {
-            cells.push_reserved(Value::Leaf(Atom::Bigint(number)));
+            put(cells, size, Value::Leaf(Atom::Bigint(number)));
             Ok(true)
         }
         Scalar::Boolean(value) if is(kind, Kind::Boolean) && has_room(cells) => {
-            cells.push_reserved(Value::Leaf(Atom::Boolean(value)));
+            put(cells, size, Value::Leaf(Atom::Boolean(value)));
             Ok(true)
         }
         Scalar::Varchar(text) if is(kind, Kind::Varchar) && has_room(cells) => {
-            put_text(alloc, cells, text)
+            put_text(alloc, cells, size, text)
         }
-        _ => put_any_scalar(alloc, cells, kind, scalar),
+        _ => put_any_scalar(alloc, cells, size, kind, scalar),
     }
 }
 
-/// Adds a text behind the cells, for which they have room, as a varchar, if it is not empty, and says whether it did so.
+/// Adds a text behind the cells, for which they have room, as a varchar, and its bytes to their size, if it is not empty, and says whether it did so.
 #[inline(always)]
-fn put_text(alloc: Global, cells: &mut Vec<Value>, text: &str) -> Result<bool, AllocError>
+fn put_text(
+    alloc: Global,
+    cells: &mut Vec<Value>,
+    size: &mut u64,
+    text: &str,
+) -> Result<bool, AllocError>
     requires { vec_len cells.old < vec_capacity cells.old }
-    ensures { PutsScalar kind.Varchar (Varchar text.now) result cells.old.items cells.new.items }
+    ensures put { PutsScalar kind.Varchar (Varchar text.now) result cells.old.items cells.new.items }
+    ensures sized { IsSizeOf size.old cells.old.items → IsSizeOf size.new cells.new.items }
 {
     if text.is_empty() {
         return Ok(false);
     }
     let text = String::from_str(alloc, text)?;
-    cells.push_reserved(Value::Leaf(Atom::Varchar(text)));
+    put(cells, size, Value::Leaf(Atom::Varchar(text)));
     Ok(true)
 }
 
-/// Adds a scalar of any kind behind the cells, if it is one of this kind and they have room for it, and says whether it did so.
+/// Adds a scalar of any kind behind the cells, and its bytes to their size, if it is one of this kind and they have room for it, and says whether it
+/// did so.
 #[cold]
 #[inline(never)]
 fn put_any_scalar(
     alloc: Global,
     cells: &mut Vec<Value>,
+    size: &mut u64,
     kind: Kind,
     scalar: &Scalar<'_>,
 ) -> Result<bool, AllocError>
-    ensures { PutsScalar kind (value_of scalar.now) result cells.old.items cells.new.items }
+    ensures put { PutsScalar kind (value_of scalar.now) result cells.old.items cells.new.items }
+    ensures sized { IsSizeOf size.old cells.old.items → IsSizeOf size.new cells.new.items }
 {
     if !has_room(cells) {
         return Ok(false);
@@ -193,8 +205,19 @@ fn put_any_scalar(
     if !is_of_kind(&cell, kind) {
         return Ok(false);
     }
-    cells.push_reserved(cell);
+    put(cells, size, cell);
     Ok(true)
+}
+
+/// Adds a cell behind the others, which have room for it, and its bytes to their size.
+#[inline(always)]
+pub(crate) fn put(cells: &mut Vec<Value>, size: &mut u64, cell: Value)
+    requires { vec_len cells.old < vec_capacity cells.old }
+    ensures is { cells.new.items ≡ cells.old.items ++ cell ∷ [] }
+    ensures sized { IsSizeOf size.old cells.old.items → IsSizeOf size.new cells.new.items }
+{
+    *size = size.saturating_add(value_size(&cell));
+    cells.push_reserved(cell);
 }
 
 /// Whether they have room for one more.

@@ -3,6 +3,7 @@
 
 use crate::kit_std::prelude::{KitVec};
 use crate::cqlp_build::error::BuildError;
+use crate::cqlp_build::frame_len::frame_len;
 use crate::cqlp_build::held::{Fault, FrameEvents};
 use crate::cqlp_build::held_events::HeldEvents;
 use crate::cqlp_build::nesting::Nesting;
@@ -72,6 +73,7 @@ impl FrameBuilder {
             held: FrameEvents {
                 items: HeldEvents::new(),
                 cell: CellEvents::new(),
+                cells_size: None,
                 fault: None,
             },
             header: None,
@@ -281,15 +283,15 @@ impl FrameEvents {
     /// The frame of this header whose events after it are those that are held, and then this end.
     fn finish(&mut self, header: &Header, extra: u32) -> Result<BuiltFrame, BuildError> {
         self.fault = None;
-        let frame = self.frame(header);
-        match self.verdict(&frame, header, extra) {
+        let mut frame = self.frame(header);
+        match self.verdict(&mut frame, header, extra) {
             None => Ok(BuiltFrame { frame, extra }),
             Some(why) => Err(why),
         }
     }
 
     /// Why a frame is not the one whose events were held, if it is not: after all of its parts were taken.
-    fn verdict(&self, frame: &Frame, header: &Header, extra: u32) -> Option<BuildError> {
+    fn verdict(&self, frame: &mut Frame, header: &Header, extra: u32) -> Option<BuildError> {
         match self.fault {
             Some(Fault::NoMemory) => return Some(BuildError::NoMemory),
             Some(Fault::NoFrame) => return Some(BuildError::NoFrame),
@@ -298,7 +300,7 @@ impl FrameEvents {
         if !self.items.is_empty() {
             return Some(BuildError::NoFrame);
         }
-        if !is_of(frame, header, extra) {
+        if !is_of(frame, self.cells_size, header, extra) {
             return Some(BuildError::NoFrame);
         }
         None
@@ -309,15 +311,15 @@ impl FrameEvents {
     /// The frame of this header, but for its length, whose events after it are those that are held, and then its end.
     fn close(&mut self, header: &Header) -> Result<Frame, BuildError> {
         self.fault = None;
-        let frame = self.frame(header);
-        match self.refusal(&frame, header) {
+        let mut frame = self.frame(header);
+        match self.refusal(&mut frame, header) {
             None => Ok(frame),
             Some(why) => Err(why),
         }
     }
 
     /// Why a frame is not one whose events were held, whatever its length, if it is not: after all of its parts were taken.
-    fn refusal(&self, frame: &Frame, header: &Header) -> Option<BuildError> {
+    fn refusal(&self, frame: &mut Frame, header: &Header) -> Option<BuildError> {
         match self.fault {
             Some(Fault::NoMemory) => return Some(BuildError::NoMemory),
             Some(Fault::NoFrame) => return Some(BuildError::NoFrame),
@@ -326,25 +328,30 @@ impl FrameEvents {
         if !self.items.is_empty() {
             return Some(BuildError::NoFrame);
         }
-        if !can_begin(frame, header) {
+        if !can_begin(frame, self.cells_size, header) {
             return Some(BuildError::NoFrame);
         }
         None
     }
 }
 
-/// Whether some bytes spell a frame that begins with this header, but for its length.
-fn can_begin(frame: &Frame, header: &Header) -> bool {
-    match frame.measure() {
-        Ok(_) => is_directed(header),
-        Err(_) => false,
+/// Whether some bytes spell a frame that begins with this header, but for its length. It has a page's cells of so many bytes, where that is known.
+fn can_begin(frame: &mut Frame, cells_size: Option<u64>, header: &Header) -> bool {
+    match frame_len(frame, cells_size) {
+        Some(_) => is_directed(header),
+        None => false,
     }
 }
 
 /// Whether some bytes spell a frame that begins with this header, and the header's length is the frame's where this many bytes come after
-/// its last field.
-fn is_of(frame: &Frame, header: &Header, extra: u32) -> bool {
-    let Ok(len) = frame.measure() else {
+/// its last field. It has a page's cells of so many bytes, where that is known.
+fn is_of(
+    frame: &mut Frame,
+    cells_size: Option<u64>,
+    header: &Header,
+    extra: u32,
+) -> bool {
+    let Some(len) = frame_len(frame, cells_size) else {
         return false;
     };
     is_directed(header) && is_length(header.length, len, extra)

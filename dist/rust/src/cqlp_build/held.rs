@@ -30,6 +30,8 @@ pub(crate) struct FrameEvents {
     pub items: HeldEvents,
     /// The events of the cell that is under way.
     pub cell: CellEvents,
+    /// How many bytes the cells of the page have that was taken last, each with its length, where that was counted as they came.
+    pub cells_size: Option<u64>,
     pub fault: Option<Fault>,
 }
 

@@ -4,7 +4,9 @@
 use crate::kit_std::prelude::{KitVec, Vec};
 use crate::cqlp_build::item::{Content, Item, own};
 use crate::cqlp_build::misfit::is_impossible;
-use crate::cqlp_build::plain_cells::{is_next, is_of_kind, is_page, kind_at, put_scalar, step_of, take_cell};
+use crate::cqlp_build::plain_cells::{
+    is_next, is_of_kind, is_page, kind_at, put, put_scalar, step_of, take_cell,
+};
 use crate::cqlp_build_cells::own_scalar;
 use crate::cqlp_grammar::Event;
 use crate::cqlp_kind::{Kind, Scalar};
@@ -22,6 +24,8 @@ use core::mem;
 pub(crate) struct HeldEvents {
     head: VecDeque<Item>,
     cells: Vec<Value>,
+    /// How many bytes the cells of the run have, each with its length; 2^64 - 1 where they have more.
+    size: u64,
     /// The kinds of the type options before the run, which are those of its columns where no option has others in it.
     kinds: Vec<Kind>,
     /// How many cells of the run were taken.
@@ -37,6 +41,7 @@ impl HeldEvents {
         HeldEvents {
             head: VecDeque::new(),
             cells: Vec::new(),
+            size: 0,
             kinds: Vec::new(),
             taken: 0,
             last: 0,
@@ -48,6 +53,7 @@ impl HeldEvents {
     pub fn clear(&mut self) {
         self.head.clear();
         self.cells.clear();
+        self.size = 0;
         self.kinds.clear();
         self.taken = 0;
         self.last = 0;
@@ -101,7 +107,7 @@ impl HeldEvents {
             return Ok(false);
         }
         let kind = kind_at(&self.kinds, column);
-        put_scalar(&mut self.cells, kind, scalar)
+        put_scalar(&mut self.cells, &mut self.size, kind, scalar)
     }
 
     /// Adds the cell of a row and a column behind the others, which is this scalar: mostly one of the run for which there is no room yet.
@@ -145,7 +151,7 @@ impl HeldEvents {
             && is_of_kind(&cell, kind_at(&self.kinds, column))
         {
             self.cells.kit_reserve(1)?;
-            self.cells.push_reserved(cell);
+            put(&mut self.cells, &mut self.size, cell);
             return Ok(());
         }
         self.push_item(Item::Cell {
@@ -187,15 +193,23 @@ impl HeldEvents {
         self.tail.pop_front()
     }
 
-    /// Takes the cells of this many rows as they lie there, where they are all that there is, and each is a plain value of its column's type.
-    pub fn take_page(&mut self, rows: u32, meta: &Metadata) -> Option<Vec<Value>> {
+    /// Takes the cells of this many rows as they lie there, where they are all that there is, and each is a plain value of its column's type; and
+    /// answers how many bytes they have, each with its length.
+    pub fn take_page(
+        &mut self,
+        rows: u32,
+        meta: &Metadata,
+    ) -> Option<(Vec<Value>, u64)> {
         if !self.head.is_empty() || !self.tail.is_empty() {
             return None;
         }
         if !is_page(rows, meta, self.last, &self.cells, self.taken, &self.kinds) {
             return None;
         }
-        Some(mem::replace(&mut self.cells, Vec::new()))
+        let cells = mem::replace(&mut self.cells, Vec::new());
+        let size = self.size;
+        self.size = 0;
+        Some((cells, size))
     }
 
     /// How many come before the first that is in no frame, whatever comes before it.

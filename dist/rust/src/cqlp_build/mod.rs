@@ -4,6 +4,7 @@
 mod builder;
 mod content;
 mod error;
+mod frame_len;
 mod frames;
 mod held;
 mod held_events;

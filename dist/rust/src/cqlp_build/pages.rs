@@ -19,14 +19,21 @@ impl FrameEvents {
         Rows { meta, rows, cells }
     }
 
-    /// Takes the cells of this many rows.
+    /// Takes the cells of this many rows, and keeps how many bytes they have, where that was counted.
     fn cells(&mut self, rows: u32, meta: &Metadata) -> Vec<Value> {
+        let (cells, size) = self.sized_cells(rows, meta);
+        self.cells_size = size;
+        cells
+    }
+
+    /// Takes the cells of this many rows, and answers how many bytes they have, where that was counted.
+    fn sized_cells(&mut self, rows: u32, meta: &Metadata) -> (Vec<Value>, Option<u64>) {
         if self.fault.is_some() {
-            return self.rows(rows, meta);
+            return (self.rows(rows, meta), None);
         }
         match self.items.take_page(rows, meta) {
-            Some(cells) => cells,
-            None => self.rows(rows, meta),
+            Some((cells, size)) => (cells, Some(size)),
+            None => (self.rows(rows, meta), None),
         }
     }
 

@@ -7,7 +7,7 @@ use crate::cqlp_build_cells::{Step, own_scalar};
 use crate::cqlp_kind::{Kind, Scalar};
 use crate::cqlp_message::{Metadata, Spec};
 use crate::cqlp_type::TypeTree;
-use crate::cqlp_value::{Atom, Value};
+use crate::cqlp_value::{Atom, Value, value_size};
 use crate::kit_std::alloc::{AllocError};
 use crate::kit_std::collections::VecDeque;
 use core::mem;
@@ -99,51 +99,58 @@ pub(crate) fn is_of_kind(value: &Value, kind: Kind) -> bool {
     }
 }
 
-/// Adds a scalar behind the cells, if it is one of this kind and they have room for it, and says whether it did so. The most common kinds have
-/// arms of their own.
+/// Adds a scalar behind the cells, and its bytes to their size, if it is one of this kind and they have room for it, and says whether it did so. The
+/// most common kinds have arms of their own.
 #[inline(always)]
 pub(crate) fn put_scalar(
     cells: &mut Vec<Value>,
+    size: &mut u64,
     kind: Kind,
     scalar: &Scalar<'_>,
 ) -> Result<bool, AllocError> {
     // Each asks for room right before it adds, so that the compiler leaves out what a push does without room, and writes the value in its place.
     match *scalar {
         Scalar::Int(number) if is(kind, Kind::Int) && has_room(cells) => {
-            cells.push_reserved(Value::Leaf(Atom::Int(number)));
+            put(cells, size, Value::Leaf(Atom::Int(number)));
             Ok(true)
         }
         Scalar::Bigint(number) if is(kind, Kind::Bigint) && has_room(cells) => {
-            cells.push_reserved(Value::Leaf(Atom::Bigint(number)));
+            put(cells, size, Value::Leaf(Atom::Bigint(number)));
             Ok(true)
         }
         Scalar::Boolean(value) if is(kind, Kind::Boolean) && has_room(cells) => {
-            cells.push_reserved(Value::Leaf(Atom::Boolean(value)));
+            put(cells, size, Value::Leaf(Atom::Boolean(value)));
             Ok(true)
         }
         Scalar::Varchar(text) if is(kind, Kind::Varchar) && has_room(cells) => {
-            put_text(cells, text)
+            put_text(cells, size, text)
         }
-        _ => put_any_scalar(cells, kind, scalar),
+        _ => put_any_scalar(cells, size, kind, scalar),
     }
 }
 
-/// Adds a text behind the cells, for which they have room, as a varchar, if it is not empty, and says whether it did so.
+/// Adds a text behind the cells, for which they have room, as a varchar, and its bytes to their size, if it is not empty, and says whether it did so.
 #[inline(always)]
-fn put_text(cells: &mut Vec<Value>, text: &str) -> Result<bool, AllocError> {
+fn put_text(
+    cells: &mut Vec<Value>,
+    size: &mut u64,
+    text: &str,
+) -> Result<bool, AllocError> {
     if text.is_empty() {
         return Ok(false);
     }
     let text = String::from_str(text)?;
-    cells.push_reserved(Value::Leaf(Atom::Varchar(text)));
+    put(cells, size, Value::Leaf(Atom::Varchar(text)));
     Ok(true)
 }
 
-/// Adds a scalar of any kind behind the cells, if it is one of this kind and they have room for it, and says whether it did so.
+/// Adds a scalar of any kind behind the cells, and its bytes to their size, if it is one of this kind and they have room for it, and says whether it
+/// did so.
 #[cold]
 #[inline(never)]
 fn put_any_scalar(
     cells: &mut Vec<Value>,
+    size: &mut u64,
     kind: Kind,
     scalar: &Scalar<'_>,
 ) -> Result<bool, AllocError> {
@@ -154,8 +161,15 @@ fn put_any_scalar(
     if !is_of_kind(&cell, kind) {
         return Ok(false);
     }
-    cells.push_reserved(cell);
+    put(cells, size, cell);
     Ok(true)
+}
+
+/// Adds a cell behind the others, which have room for it, and its bytes to their size.
+#[inline(always)]
+pub(crate) fn put(cells: &mut Vec<Value>, size: &mut u64, cell: Value) {
+    *size = size.saturating_add(value_size(&cell));
+    cells.push_reserved(cell);
 }
 
 /// Whether they have room for one more.

@@ -10,4 +10,4 @@ returns c =
     let t = c.in_ok-text.text in
     let same : string_bytes t ≡ c.args.text.now = c.in_ok-text.ensures.ok in
     let some : eqb (length c.args.text.now) 0 ≡ false = sym c.is_empty.ensures ∙ c.if-is_empty.false in
-    (atom.Varchar t, c.push_reserved.ensures.items, ap Varchar same, varchar_is t c.args.text.now same c.utf8.text some)
+    record { put = (atom.Varchar t, c.put.ensures.is, ap Varchar same, varchar_is t c.args.text.now same c.utf8.text some); sized = c.put.ensures.sized }

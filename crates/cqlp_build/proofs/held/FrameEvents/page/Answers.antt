@@ -13,4 +13,4 @@ cells-cells-requires c = λ s.
     readable m (both (metadata_agrees m) (is_built_metadata m) (c.metadata-meta.ensures.made before).2).0
 
 pub returns : goal.returns
-returns c = page_made c.metadata-meta.ensures c.count-rows.ensures.is c.cells-cells.ensures
+returns c = record { is = page_made c.metadata-meta.ensures c.count-rows.ensures.is c.cells-cells.ensures.is; sized = c.cells-cells.ensures.sized }
