@@ -179,7 +179,7 @@ def answered(flags, body, message):
     tracing = f" tracing {uuid.UUID(bytes=fields.take(16))}" if flags & 0x02 else ""
     warnings = [fields.text().decode() for _ in range(fields.number())] if flags & 0x08 else None
     pass_payload(fields, flags)
-    warned = "" if warnings is None else f" warnings {len(warnings)}" + "".join(f' "{text}"' for text in warnings[:1])
+    warned = "" if warnings is None else f" warnings {len(warnings)}" + "".join(f' "{text}"' for text in warnings)
     return said_by(fields, message) + warned + tracing
 
 

@@ -61,6 +61,13 @@ def nodes(details):
         yield f"failed {details['failures']}"
 
 
+def warned(of):
+    """The texts of warnings. Where not all of each is there, that is the last one, or the first one too."""
+    texts = of.get("warning_texts", [])
+    for number, text in enumerate(texts, 1):
+        yield quoted(text, of["warning_is_whole"] if number == 1 else of["warning_texts_are_whole"] or number < len(texts))
+
+
 def response(of):
     words = [of["result"] or of["response"]]
     if of["error"] is not None:
@@ -74,8 +81,7 @@ def response(of):
         words.append("more")
     if of["warnings"] is not None:
         words.append(f"warnings {of['warnings']}")
-    if of["warning"] is not None:
-        words.append(quoted(of["warning"], of["warning_is_whole"]))
+    words += warned(of)
     if of["tracing_id"] is not None:
         words.append(f"tracing {of['tracing_id']}")
     return " ".join([*words, mark(of, "response")])
@@ -315,7 +321,7 @@ def row_of_interval(of):
 # The names of the fields of --csv, which are keys of objects.
 COLUMNS = """told time utc client node connection stream request request_bytes request_is_whole request_is_compressed statements statement id statement_is_whole
     consistency page_size has_paging_state response response_bytes response_is_whole response_is_compressed result error message message_is_whole rows columns
-    has_more_pages warnings warning warning_is_whole tracing_id took connection_end protocol version""".split()
+    has_more_pages warnings warning warning_is_whole warning_texts warning_texts_are_whole tracing_id took connection_end protocol version""".split()
 
 # What a terminal may obey, and the backslash.
 HIDDEN = re.compile("[\\0-\x1f\x7f-\x9f\u061c\u200e\u200f\u2028-\u202e\u2066-\u2069]|\\\\")
@@ -325,6 +331,8 @@ def field(value):
     """A value of an object, as a field of --csv has it."""
     if value is None:
         return ""
+    if isinstance(value, list):
+        return "; ".join(map(field, value))
     if isinstance(value, str):
         return HIDDEN.sub(lambda found: "\\\\" if found[0] == "\\" else "".join(f"\\x{byte:02x}" for byte in found[0].encode()), value)
     return str(value).lower() if isinstance(value, bool) else f"{value:f}" if isinstance(value, Decimal) else str(value)
@@ -363,7 +371,7 @@ TYPES = {
     "statement_is_whole": FLAG, "values": {list}, "values_are_whole": FLAG, "consistency": NAMED, "page_size": WHOLE, "has_paging_state": FLAG,
     "response": TEXT, "response_bytes": WHOLE, "response_is_whole": FLAG, "response_is_compressed": FLAG, "result": NAMED, "error": NAMED, "message": TEXT,
     "message_is_whole": FLAG, "details": {dict}, "rows": WHOLE, "columns": WHOLE, "has_more_pages": FLAG, "warnings": WHOLE, "warning": TEXT,
-    "warning_is_whole": FLAG, "tracing_id": TEXT, "took": REAL, "connection_end": TEXT,
+    "warning_is_whole": FLAG, "warning_texts": {list}, "warning_texts_are_whole": FLAG, "tracing_id": TEXT, "took": REAL, "connection_end": TEXT,
 }
 
 

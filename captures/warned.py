@@ -2,9 +2,9 @@
 """captures/warned.py COMMAND.. ROOM: prints what is wrong with what `cqlp capture` writes of the warnings of responses.
 
 It makes a capture in ROOM of requests and their responses, with warnings before the message (section 2.2 of native_protocol_v4.spec): none, one, several, long
-ones, with what a terminal obeys, with bytes that are no UTF-8, behind a tracing id, before a custom payload, in a body that is compressed, or that ends at each
-byte of them, in a packet or in pieces. What a line, an object (--json) and a record (--csv) have to say of them is read from the bytes again. Last it makes
-one where there is no room for what a response says."""
+ones, with what a terminal obeys, with bytes that are no UTF-8, with a number that is not theirs, behind a tracing id, before a custom payload, in a body that
+is compressed, or that ends at each byte of them, in a packet or in pieces. What a line, an object (--json) and a record (--csv) have to say of them is read
+from the bytes again. Last it makes one where there is no room for what a response says."""
 import csv
 import itertools
 import json
@@ -25,6 +25,7 @@ PACKED, TRACED, LADEN, WARNED = 0x01, 0x02, 0x04, 0x08
 VOID = struct.pack(">I", 1)
 INVALID = struct.pack(">I", 0x2200) + string(b"no such table")
 PAYLOAD = struct.pack(">H", 1) + string(b"key") + struct.pack(">i", 300) + b"p" * 300
+KEYS = ["warnings", "warning", "warning_is_whole", "warning_texts", "warning_texts_are_whole"]
 AGGREGATION = b"Aggregation query used without partition key"
 
 # Warnings of one response each.
@@ -32,6 +33,15 @@ LISTS = [
     [], [b""], [b"slow"], [AGGREGATION], [AGGREGATION, b"Read 5000 live rows and 1001 tombstone cells"], [b"w"] * 300, [b"", b"behind"],
     [b"\x1b[31mred\x1b[0m"], [b'a "quoted" \\ word'], [b"two\r\nlines\tand \x00"], ["\u202eleft \u2028 \u0085 é".encode()], [b"\xff"], [b"good \xe2\x82"],
     [b"=1+1"], [b"x" * 300], *([b"m" * length] for length in range(234, 256)), *(["é".encode() * length] for length in range(117, 128)), [b"y" * 65_535],
+    [b"first", b"\x1b[2J\n", "\u202eleft".encode(), b'a "quoted" \\ word, and; another', b"last"], [b"\xff", b"behind", b"\xe2\x82", b""],
+    *([b"first", b"m" * length, b"last"] for length in range(215, 250)), *([b"first", "é".encode() * length] for length in range(110, 124)),
+    [b"first", b"y" * 65_535, b"last"],
+]
+
+# Numbers of warnings, and bytes that are other strings than so many, or none.
+FALSE_LISTS = [
+    (5, string(b"one") + string(b"two")), (0xFFFF, string(b"one")), (0xFFFF, b""), (0xFFFF, string(b"") * 200), (1, string(b"one") + string(b"two")),
+    (0, string(b"one")), (3, b"\xff\xffshort"), (3, string(b"one") + b"\xff\xffshort"), (2, string(b"one") + b"\0"), (2, string(b"one") + b"\0\5four"),
 ]
 
 
@@ -54,7 +64,9 @@ def responses():
     for more, warnings in itertools.product((0, TRACED, LADEN), ([b"slow", b"very"], [])):
         body = announced(WARNED | more, warnings) + VOID
         yield from ((RESULT, WARNED | more, body[:length]) for length in range(min(len(body), 60)))
-    yield RESULT, WARNED, struct.pack(">HH", 3, 0xFFFF) + b"short"
+    for (count, strings), end in itertools.product(FALSE_LISTS, (b"", VOID)):
+        yield RESULT, WARNED, struct.pack(">H", count) + strings + end
+        yield RESULT, WARNED | TRACED, bytes(range(16)) + struct.pack(">H", count) + strings + end
 
 
 def messages(sent, pieces):
@@ -70,34 +82,44 @@ def messages(sent, pieces):
 
 # ---- what has to be said of it
 
-def found_in(flags, body):
-    """The keys of an object that the bytes before a message decide, but for the tracing id."""
-    due = {"warnings": None, "warning": None, "warning_is_whole": None}
-    if flags & PACKED or not flags & WARNED:
-        return due
-    begin = 16 if flags & TRACED else 0
-    count, behind = body[begin:begin + 2], body[begin + 2:KEPT]
-    if len(count) == 2:
-        due["warnings"] = int.from_bytes(count, "big")
-    if due["warnings"] and len(behind) >= 2:
+def strings_in(count, behind):
+    """The texts of so many strings, each as far as it is there, with whether it is whole."""
+    while count and len(behind) >= 2:
         length = int.from_bytes(behind[:2], "big")
         text = front_of(behind[2:2 + length])
-        due.update(warning=text, warning_is_whole=len(text.encode()) == length)
-    return due
+        yield text, len(text.encode()) == length
+        count, behind = count - 1, behind[2 + length:]
 
 
-def words_of(due):
+def warnings_of(flags, body):
+    """How many warnings a response has, if that is seen, and their texts, as far as they are in the bytes that are kept."""
+    begin = 16 if flags & TRACED else 0
+    count, behind = body[begin:begin + 2], body[begin + 2:KEPT]
+    if flags & PACKED or not flags & WARNED or len(count) < 2:
+        return None, []
+    return int.from_bytes(count, "big"), list(strings_in(int.from_bytes(count, "big"), behind))
+
+
+def found_in(flags, body):
+    """The keys of an object that the bytes before a message decide, but for the tracing id."""
+    count, strings = warnings_of(flags, body)
+    if not strings:
+        return {"warnings": count, "warning": None, "warning_is_whole": None}
+    (first, is_whole), texts = strings[0], [text for text, _ in strings]
+    return {"warnings": count, "warning": first, "warning_is_whole": is_whole, "warning_texts": texts, "warning_texts_are_whole": all(of for _, of in strings)}
+
+
+def words_of(flags, body):
     """The words of a line for them."""
-    if due["warnings"] is None:
-        return ""
-    text = "" if due["warning"] is None else ' "' + field(due["warning"]).replace('"', '\\"') + '"'
-    return f" warnings {due['warnings']}{text}" + (".." if due["warning_is_whole"] is False else "")
+    count, strings = warnings_of(flags, body)
+    texts = "".join(' "' + field(text).replace('"', '\\"') + '"' + ".." * (not is_whole) for text, is_whole in strings)
+    return "" if count is None else f" warnings {count}{texts}"
 
 
 def tail_of(flags, body):
     """The end of a line, from the warnings on."""
     traced = f" tracing {uuid.UUID(bytes=body[:16])}" if flags & TRACED and not flags & PACKED and len(body) >= 16 else ""
-    return f"{words_of(found_in(flags, body))}{traced} {9 + len(body)}" + (" compressed" if flags & PACKED else "") + " 0.000 ms"
+    return f"{words_of(flags, body)}{traced} {9 + len(body)}" + (" compressed" if flags & PACKED else "") + " 0.000 ms"
 
 
 # ---- what is said of it
@@ -114,12 +136,12 @@ def written(command, file, *options):
 
 def compare(line, of, record, opcode, flags, body):
     due = found_in(flags, body)
-    found = {key: of[key] for key in due}
-    if found != due:
-        print(f"{found}\n  is not {due}")
-    if [key for key in of if key in due] != list(due) or list(of)[list(of).index("warning_is_whole") + 1] != "tracing_id":
-        print(f"keys in another order: {list(of)}")
-    if {key: record[key] for key in due} != {key: field(value) for key, value in due.items()}:
+    keys = list(of)
+    begin, end = keys.index("warnings"), keys.index("tracing_id")
+    if [(key, of[key]) for key in keys[begin:end]] != list(due.items()):
+        print(f"{of}\n  is not {due}")
+    found = {key: value for key, value in record.items() if key.startswith("warning")}
+    if found != {**dict.fromkeys(KEYS, ""), **{key: field(value) for key, value in due.items()}}:
         print(f"{record}\n  is not {due}")
     tail = tail_of(flags, body)
     if not line.endswith(tail) or (" warnings " in line) != (" warnings " in tail):

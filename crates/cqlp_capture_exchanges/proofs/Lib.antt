@@ -14,3 +14,4 @@ pub mod Pooled
 mod Parts
 mod SummaryObjects
 mod TableNames
+mod Warnings

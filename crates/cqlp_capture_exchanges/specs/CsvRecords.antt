@@ -34,7 +34,8 @@ use Rattle.cqlp_capture_exchanges.specs.Reports.{Report, Messages, Unread}
 use Rattle.cqlp_capture_exchanges.specs.Spans.{is_whole, time_between, took}
 use Rattle.cqlp_capture_exchanges.specs.Statements.{Said, Text, Id, statement, statements}
 use Rattle.cqlp_capture_exchanges.specs.Times.{joined}
-use Rattle.cqlp_capture_exchanges.specs.Warnings.{warning}
+use Rattle.cqlp_capture_exchanges.specs.Warnings.{Listed, Warned, first_of, warnings_in}
+use Rattle.cqlp_capture_exchanges.specs.WarningTexts.{texts_fields}
 
 -- ---- what is reported; when its first byte came, in seconds since the first packet and as a date and a time of day; and where
 
@@ -105,10 +106,13 @@ result_fields f =
     field (if_known signed_decimal f.rows) ∷ field (if_known signed_decimal f.columns) ∷ field (if_known boolean_text f.has_more_pages)
     ∷ field (if_known number f.warnings) ∷ []
 
--- the first warning, and whether all of it is there
-abbrev pub warning_fields : (is_given_up : Bool) → Option Said → Members
-warning_fields is_given_up (Some (Text text is_whole)) = field (text_field text) ∷ field (boolean_text is_whole) ∷ []
-warning_fields is_given_up s = field [] ∷ field (none_whole_field is_given_up) ∷ []
+-- the first warning, and whether all of it is there; and the texts of all
+abbrev pub warned_fields : (first : Warned) → (others : Listed) → List ℕ
+warned_fields w others = joined (texts (field (text_field w.text) ∷ field (boolean_text w.is_whole) ∷ []) ∷ texts_fields w others ∷ [])
+
+abbrev pub warnings_fields : (is_given_up : Bool) → Option (Warned × Listed) → List ℕ
+warnings_fields is_given_up None = texts (field [] ∷ field (none_whole_field is_given_up) ∷ field [] ∷ field [] ∷ [])
+warnings_fields is_given_up (Some (w, others)) = warned_fields w others
 
 abbrev pub tracing_fields : Facts → Members
 tracing_fields f = field (if_known uuid f.trace_id) ∷ []
@@ -116,7 +120,7 @@ tracing_fields f = field (if_known uuid f.trace_id) ∷ []
 abbrev pub known_text : Message Kept → List ℕ
 known_text m =
     joined (texts (result_fields m.kept.facts)
-    ∷ texts (warning_fields m.kept.is_text_dropped (warning m.frame.header (announced_bytes m.kept.announced)))
+    ∷ warnings_fields m.kept.is_text_dropped (first_of (warnings_in m.frame.header (announced_bytes m.kept.announced)))
     ∷ texts (tracing_fields m.kept.facts) ∷ [])
 
 abbrev pub response_text : Message Kept → List ℕ
@@ -125,9 +129,9 @@ response_text m =
     ∷ texts (message_fields m.kept.is_text_dropped (message (reply m.frame.header m.kept.front) m.kept.front))
     ∷ known_text m ∷ [])
 
--- in place of its fifteen fields
+-- in place of its seventeen fields
 abbrev pub no_response : List ℕ
-no_response = codes ",,,,,,,,,,,,,,,"
+no_response = codes ",,,,,,,,,,,,,,,,,"
 
 -- ---- the record
 
@@ -170,7 +174,7 @@ protocol_fields o = field (word (protocol_name o)) ∷ field (version_field o) �
 -- without a stream, a request, a response, a time that it took and an end
 abbrev pub unread_record : (first : Option ℕ) → (connection : Connection) → (time : Option ℕ) → Opening → List ℕ
 unread_record first n time o =
-    joined (where_text (codes "unread") first n time ∷ codes ",,,,,,,,,,,,,,,,,,,,,,,,,,,,," ∷ texts (protocol_fields o) ∷ codes "\r\n" ∷ [])
+    joined (where_text (codes "unread") first n time ∷ codes ",,,,,,,,,,,,,,,,,,,,,,,,,,,,,,," ∷ texts (protocol_fields o) ∷ codes "\r\n" ∷ [])
 
 abbrev pub record_of : (known : Known) → (first : Option ℕ) → (connection : Connection) → Report → List ℕ
 record_of known first n (Messages t end) = paired_record known first n end t
@@ -184,7 +188,7 @@ names =
     (codes "told,time,utc,client,node,connection,stream,request,request_bytes,request_is_whole,request_is_compressed,statements,"
     ∷ codes "statement,id,statement_is_whole,consistency,page_size,has_paging_state,response,response_bytes,response_is_whole,"
     ∷ codes "response_is_compressed,result,error,message,message_is_whole,rows,columns,has_more_pages,warnings,warning,"
-    ∷ codes "warning_is_whole,tracing_id,took,connection_end,protocol,version\r\n" ∷ [])
+    ∷ codes "warning_is_whole,warning_texts,warning_texts_are_whole,tracing_id,took,connection_end,protocol,version\r\n" ∷ [])
 
 abbrev pub names_if_first : Summary → List ℕ
 names_if_first s = if s.others.count == 0 then names else []

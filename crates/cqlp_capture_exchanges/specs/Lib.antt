@@ -4,6 +4,7 @@ pub mod Times
 pub mod Statements
 pub mod Replies
 pub mod Warnings
+pub mod WarningTexts
 pub mod Reports
 pub mod Labels
 pub mod Prepared

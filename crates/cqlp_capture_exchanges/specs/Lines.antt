@@ -36,7 +36,9 @@ use Rattle.cqlp_capture_summary.specs.Shown.{shown_text}
 use Rattle.cqlp_capture_exchanges.specs.Spans.{is_whole, time_between, took}
 use Rattle.cqlp_capture_exchanges.specs.Statements.{Said, Text, Id, statement, statements}
 use Rattle.cqlp_capture_exchanges.specs.Times.{joined, time_text, utc_text}
-use Rattle.cqlp_capture_exchanges.specs.Warnings.{warning}
+use Rattle.cqlp_capture_exchanges.specs.declared.warning_texts.WarningForm.TheVariants as form
+use Rattle.cqlp_capture_exchanges.specs.Warnings.{Listed, warnings_in}
+use Rattle.cqlp_capture_exchanges.specs.WarningTexts.{other_texts}
 
 -- ---- what a request asks to be done, after a space
 
@@ -107,10 +109,10 @@ pages_mark s = []
 abbrev pub page_counts_text : Facts → List ℕ
 page_counts_text f = joined (counts_text f.rows f.columns ∷ pages_mark f.has_more_pages ∷ [])
 
--- how many warnings a response has, and the first one
-abbrev pub warnings_text : Option ℕ → (first : Option Said) → List ℕ
-warnings_text None first = []
-warnings_text (Some n) first = joined (codes " warnings " ∷ decimal n ∷ statement_text first ∷ [])
+-- how many warnings a response has, and their texts
+abbrev pub warnings_text : Option ℕ → Listed → List ℕ
+warnings_text None l = []
+warnings_text (Some n) l = joined (codes " warnings " ∷ decimal n ∷ other_texts form.Line l ∷ [])
 
 abbrev pub tracing_text : Option (List ℕ) → List ℕ
 tracing_text None = []
@@ -146,7 +148,7 @@ abbrev pub response_text : Message Kept → List ℕ
 response_text m =
     joined (reply_text (reply m.frame.header m.kept.front) ∷ page_counts_text m.kept.facts
     ∷ error_text (reply m.frame.header m.kept.front) m.kept.front ∷ given_up_mark m.kept.is_text_dropped
-    ∷ warnings_text m.kept.facts.warnings (warning m.frame.header (announced_bytes m.kept.announced))
+    ∷ warnings_text m.kept.facts.warnings (warnings_in m.frame.header (announced_bytes m.kept.announced))
     ∷ tracing_text m.kept.facts.trace_id ∷ frame_text m.frame ∷ [])
 
 -- ---- the line

@@ -33,7 +33,8 @@ use Rattle.cqlp_capture_exchanges.specs.Replies.{error_names, kind_names, messag
 use Rattle.cqlp_capture_exchanges.specs.Spans.{is_whole, time_between, took}
 use Rattle.cqlp_capture_exchanges.specs.Statements.{Said, Text, Id, statement, statements}
 use Rattle.cqlp_capture_exchanges.specs.Times.{joined}
-use Rattle.cqlp_capture_exchanges.specs.Warnings.{warning}
+use Rattle.cqlp_capture_exchanges.specs.Warnings.{Listed, Warned, first_of, warnings_in}
+use Rattle.cqlp_capture_exchanges.specs.WarningTexts.{texts_members}
 
 -- ---- what is reported; when its first byte came, in seconds since the first packet and as a date and a time of day; and where
 
@@ -120,9 +121,13 @@ result_members f =
 abbrev pub warning_as : (text is_whole : List ℕ) → Members
 warning_as text is_whole = member "warning" text ∷ member "warning_is_whole" is_whole ∷ []
 
-abbrev pub warning_members : (is_given_up : Bool) → Option Said → Members
-warning_members is_given_up (Some (Text text is_whole)) = warning_as (string text) (boolean_text is_whole)
-warning_members is_given_up s = warning_as null (none_whole is_given_up)
+-- with the texts of all
+abbrev pub warned_members : (first : Warned) → (others : Listed) → List ℕ
+warned_members w others = joined (texts (warning_as (string w.text) (boolean_text w.is_whole)) ∷ texts_members w others ∷ [])
+
+abbrev pub warnings_members : (is_given_up : Bool) → Option (Warned × Listed) → List ℕ
+warnings_members is_given_up None = texts (warning_as null (none_whole is_given_up))
+warnings_members is_given_up (Some (w, others)) = warned_members w others
 
 abbrev pub tracing_members : Facts → Members
 tracing_members f = member "tracing_id" (uuid_or_null f.trace_id) ∷ []
@@ -130,7 +135,7 @@ tracing_members f = member "tracing_id" (uuid_or_null f.trace_id) ∷ []
 abbrev pub known_members : Message Kept → List ℕ
 known_members m =
     joined (texts (result_members m.kept.facts)
-    ∷ texts (warning_members m.kept.is_text_dropped (warning m.frame.header (announced_bytes m.kept.announced)))
+    ∷ warnings_members m.kept.is_text_dropped (first_of (warnings_in m.frame.header (announced_bytes m.kept.announced)))
     ∷ texts (tracing_members m.kept.facts) ∷ [])
 
 abbrev pub response_members : Message Kept → List ℕ

@@ -8,9 +8,10 @@ ghost use Rattle.cqlp_capture_exchanges.specs.CsvRecords.{alone_record, count_fi
 ghost use Rattle.cqlp_capture_exchanges.specs.CsvRecords.{last_fields, message_fields, names_if_first, paired_record, place_text};
 ghost use Rattle.cqlp_capture_exchanges.specs.CsvRecords.{protocol_fields, query_fields, record_of, reply_fields, request_text};
 ghost use Rattle.cqlp_capture_exchanges.specs.CsvRecords.{response_text, result_fields, statement_fields, stream_fields, unread_record};
-ghost use Rattle.cqlp_capture_exchanges.specs.CsvRecords.{known_text, tracing_fields, warning_fields, where_fields, where_text, with_record};
+ghost use Rattle.cqlp_capture_exchanges.specs.CsvRecords.{known_text, tracing_fields, warned_fields, warnings_fields, where_fields, where_text, with_record};
 ghost use Rattle.cqlp_capture_exchanges.specs.Reports.{report_of};
 ghost use Rattle.cqlp_capture_exchanges.specs.Statements.{said_of};
+ghost use Rattle.cqlp_capture_exchanges.specs.Warnings.{first_of, listed_of, warned_of};
 
 use crate::connection::Connection;
 use crate::csv_field::put_fields;
@@ -26,7 +27,8 @@ use crate::reply::{Reply, error_name, kind_name, message_of, reply_of};
 use crate::report::{ConnectionEnd, Report};
 use crate::span::{Span, is_whole, time_between, took};
 use crate::statement::{Statement, has, statement_of, statements_of};
-use crate::warning::warning_of;
+use crate::warning::{Warning, Warnings, warnings_of};
+use crate::warning_texts::put_texts_fields;
 use cqlp_capture_summary::Summary;
 use cqlp_grammar::SinkFault;
 use cqlp_json::put_word;
@@ -40,14 +42,14 @@ const NAMES: &str =
     "told,time,utc,client,node,connection,stream,request,request_bytes,request_is_whole,request_is_compressed,statements,\
     statement,id,statement_is_whole,consistency,page_size,has_paging_state,response,response_bytes,response_is_whole,\
     response_is_compressed,result,error,message,message_is_whole,rows,columns,has_more_pages,warnings,warning,\
-    warning_is_whole,tracing_id,took,connection_end,protocol,version\r\n";
+    warning_is_whole,warning_texts,warning_texts_are_whole,tracing_id,took,connection_end,protocol,version\r\n";
 
 /// In place of the fields of a request, of a response, and of all between a connection's number and its protocol.
 const NO_REQUEST: &[u8] = b",,,,,,,,,,,";
 
-const NO_RESPONSE: &[u8] = b",,,,,,,,,,,,,,,";
+const NO_RESPONSE: &[u8] = b",,,,,,,,,,,,,,,,,";
 
-const NO_MESSAGE: &[u8] = b",,,,,,,,,,,,,,,,,,,,,,,,,,,,,";
+const NO_MESSAGE: &[u8] = b",,,,,,,,,,,,,,,,,,,,,,,,,,,,,,,";
 
 /// Takes the record of a report of this connection, in a capture whose first packet came at this time, behind one with the names of the fields if it is
 /// the first, and passes it on.
@@ -444,29 +446,52 @@ fn put_known<P: Pen, A: Allocator>(
     ensures { Writes writer.old (known_text response.now) result writer.new }
 {
     let facts = response.kept.facts();
-    let warning = warning_of(&response.frame.header, response.kept.announced());
+    let warnings = warnings_of(&response.frame.header, response.kept.announced());
     put_result(writer, &facts)?;
-    put_warning(writer, response.kept.is_text_dropped(), &warning)?;
+    put_warnings(writer, response.kept.is_text_dropped(), &warnings)?;
     put_tracing(writer, &facts)
 }
 
-/// Takes the first warning of a response.
-fn put_warning<P: Pen>(
+/// Takes the warnings of a response.
+fn put_warnings<P: Pen>(
     writer: &mut TextWriter<P>,
     is_given_up: bool,
-    warning: &Option<Statement<'_>>,
+    warnings: &Warnings<'_>,
 ) -> Result<(), SinkFault>
-    ensures { Writes writer.old (texts (warning_fields is_given_up (option_map said_of warning.now))) result writer.new }
+    ensures { Writes writer.old (warnings_fields is_given_up (first_of (listed_of warnings.now))) result writer.new }
 {
-    match warning {
-        Some(Statement::Text { text, is_whole }) => {
-            put_fields(writer, &[Value::Text(text), Value::Flag(*is_whole)])
-        }
-        Some(Statement::Id { .. }) => {
-            put_fields(writer, &[Value::Null, none_whole(is_given_up)])
-        }
-        None => put_fields(writer, &[Value::Null, none_whole(is_given_up)]),
+    match warnings.split_first() {
+        Some((first, others)) => put_known_warnings(writer, &first, &others),
+        None => put_no_warning(writer, is_given_up),
     }
+}
+
+fn put_no_warning<P: Pen>(writer: &mut TextWriter<P>, is_given_up: bool) -> Result<(), SinkFault>
+    ensures { Writes writer.old (warnings_fields is_given_up None) result writer.new }
+{
+    put_fields(
+        writer,
+        &[
+            Value::Null,
+            none_whole(is_given_up),
+            Value::Null,
+            Value::Null,
+        ],
+    )
+}
+
+fn put_known_warnings<P: Pen>(
+    writer: &mut TextWriter<P>,
+    first: &Warning<'_>,
+    others: &Warnings<'_>,
+) -> Result<(), SinkFault>
+    ensures { Writes writer.old (warned_fields (warned_of first.now) (listed_of others.now)) result writer.new }
+{
+    put_fields(
+        writer,
+        &[Value::Text(first.text), Value::Flag(first.is_whole)],
+    )?;
+    put_texts_fields(writer, first, others)
 }
 
 fn put_tracing<P: Pen>(writer: &mut TextWriter<P>, facts: &Facts) -> Result<(), SinkFault>

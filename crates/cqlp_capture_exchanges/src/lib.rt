@@ -44,6 +44,7 @@ mod table;
 mod table_name;
 mod utc;
 mod warning;
+mod warning_texts;
 
 pub use capturing::write_exchanges;
 pub use exchanges::Exchanges;

@@ -8,7 +8,7 @@ ghost use Rattle.cqlp_capture_exchanges.specs.Lines.{begun_text, both_ends, ends
 ghost use Rattle.cqlp_capture_exchanges.specs.Lines.{compressed_mark, count_text, counts_text, cut_mark, end_text, error_text, frame_text};
 ghost use Rattle.cqlp_capture_exchanges.specs.Lines.{given_up_mark, kind_text, line, more, name_or_number, next_mark, opening_text, page_counts_text};
 ghost use Rattle.cqlp_capture_exchanges.specs.Lines.{page_text, pages_mark, paging_text, paired_line, place_text, tracing_text, unread_line, warnings_text};
-ghost use Rattle.cqlp_capture_exchanges.specs.Warnings.{warning};
+ghost use Rattle.cqlp_capture_exchanges.specs.Warnings.{warnings_in};
 ghost use Rattle.cqlp_capture_exchanges.specs.Lines.{reply_text, request_text, response_text, said_text, statement_text, took_text};
 ghost use Rattle.cqlp_capture_exchanges.specs.Prepared.{known_of};
 ghost use Rattle.cqlp_capture_exchanges.specs.Statements.{said_of};
@@ -31,7 +31,8 @@ use crate::report::{ConnectionEnd, Report};
 use crate::span::{Unit, is_whole, put_time, time_between, took};
 use crate::statement::{Statement, has, statement_of, statements_of};
 use crate::utc::put_utc;
-use crate::warning::warning_of;
+use crate::warning::warnings_of;
+use crate::warning_texts::{WarningForm, put_other_texts};
 use cqlp_capture_summary::put_shown_text;
 use cqlp_grammar::SinkFault;
 use cqlp_note::{Header, Target};
@@ -455,14 +456,14 @@ fn put_error_message<P: Pen>(
     put_numbers(writer, &details)
 }
 
-/// Takes how many warnings a response has, and the first one.
+/// Takes how many warnings a response has, and their texts.
 fn put_warnings<P: Pen>(
     writer: &mut TextWriter<P>,
     count: Option<u16>,
     header: &Header,
     announced: &[u8],
 ) -> Result<(), SinkFault>
-    ensures { Writes writer.old (warnings_text count (warning header.now announced.now)) result writer.new }
+    ensures { Writes writer.old (warnings_text count (warnings_in header.now announced.now)) result writer.new }
 {
     match count {
         Some(count) => put_known_warnings(writer, count, header, announced),
@@ -476,12 +477,12 @@ fn put_known_warnings<P: Pen>(
     header: &Header,
     announced: &[u8],
 ) -> Result<(), SinkFault>
-    ensures { Writes writer.old (warnings_text (Some count) (warning header.now announced.now)) result writer.new }
+    ensures { Writes writer.old (warnings_text (Some count) (warnings_in header.now announced.now)) result writer.new }
 {
-    let warning = warning_of(header, announced);
+    let warnings = warnings_of(header, announced);
     writer.put(b" warnings ")?;
     writer.put_number(u64::from(count))?;
-    put_statement(writer, &warning)
+    put_other_texts(writer, WarningForm::Line, &warnings)
 }
 
 /// Takes the tracing id of a response.

@@ -9,12 +9,13 @@ ghost use Rattle.cqlp_capture_exchanges.specs.Objects.{alone_object, count_membe
 ghost use Rattle.cqlp_capture_exchanges.specs.Objects.{message_as, message_members, none_whole, paired_object, place_members};
 ghost use Rattle.cqlp_capture_exchanges.specs.Objects.{protocol_name, query_members, reply_members, reply_values, request_frame_members};
 ghost use Rattle.cqlp_capture_exchanges.specs.Objects.{request_members, response_frame_members, response_members, result_members};
-ghost use Rattle.cqlp_capture_exchanges.specs.Objects.{known_members, tracing_members, warning_as, warning_members};
+ghost use Rattle.cqlp_capture_exchanges.specs.Objects.{known_members, tracing_members, warned_members, warning_as, warnings_members};
 ghost use Rattle.cqlp_capture_exchanges.specs.Objects.{statement_as, statement_members, unread_members, unread_object, version_or_null};
 ghost use Rattle.cqlp_capture_exchanges.specs.CsvFields.{field_text, none_whole_field};
 ghost use Rattle.cqlp_capture_exchanges.specs.CsvRecords.{end_field, version_field};
 ghost use Rattle.cqlp_capture_exchanges.specs.Members.{value_text};
 ghost use Rattle.cqlp_capture_exchanges.specs.Statements.{said_of};
+ghost use Rattle.cqlp_capture_exchanges.specs.Warnings.{first_of, listed_of, warned_of};
 
 use crate::bound::put_values_members_if;
 use crate::connection::Connection;
@@ -30,7 +31,8 @@ use crate::reply::{Reply, error_name, kind_name, message_of, reply_of};
 use crate::report::{ConnectionEnd, Report};
 use crate::span::{Span, is_whole, time_between, took};
 use crate::statement::{Statement, has, statement_of, statements_of};
-use crate::warning::warning_of;
+use crate::warning::{Warning, Warnings, warnings_of};
+use crate::warning_texts::put_texts_members;
 use cqlp_grammar::SinkFault;
 use cqlp_note::Target;
 use cqlp_observer::{Facts, Frame, Kept, Message, Opening, Paired};
@@ -493,34 +495,40 @@ fn put_known<P: Pen, A: Allocator>(
     ensures { Writes writer.old (known_members response.now) result writer.new }
 {
     let facts = response.kept.facts();
-    let warning = warning_of(&response.frame.header, response.kept.announced());
+    let warnings = warnings_of(&response.frame.header, response.kept.announced());
     put_result(writer, &facts)?;
-    put_warning(writer, response.kept.is_text_dropped(), &warning)?;
+    put_warnings(writer, response.kept.is_text_dropped(), &warnings)?;
     put_tracing(writer, &facts)
 }
 
-/// Takes the first warning of a response.
-fn put_warning<P: Pen>(
+/// Takes the warnings of a response.
+fn put_warnings<P: Pen>(
     writer: &mut TextWriter<P>,
     is_given_up: bool,
-    warning: &Option<Statement<'_>>,
+    warnings: &Warnings<'_>,
 ) -> Result<(), SinkFault>
-    ensures { Writes writer.old (texts (warning_members is_given_up (option_map said_of warning.now))) result writer.new }
+    ensures { Writes writer.old (warnings_members is_given_up (first_of (listed_of warnings.now))) result writer.new }
 {
-    match warning {
-        Some(Statement::Text { text, is_whole }) => {
-            put_warning_as(writer, Value::Text(text), Value::Flag(*is_whole))
-        }
-        Some(Statement::Id { .. }) => {
-            put_warning_as(writer, Value::Null, none_whole(is_given_up))
-        }
+    match warnings.split_first() {
+        Some((first, others)) => put_known_warnings(writer, &first, &others),
         None => put_no_warning(writer, is_given_up),
     }
 }
 
+fn put_known_warnings<P: Pen>(
+    writer: &mut TextWriter<P>,
+    first: &Warning<'_>,
+    others: &Warnings<'_>,
+) -> Result<(), SinkFault>
+    ensures { Writes writer.old (warned_members (warned_of first.now) (listed_of others.now)) result writer.new }
+{
+    put_warning_as(writer, Value::Text(first.text), Value::Flag(first.is_whole))?;
+    put_texts_members(writer, first, others)
+}
+
 /// The same where there is none, in one go where that is known, as it mostly is.
 fn put_no_warning<P: Pen>(writer: &mut TextWriter<P>, is_given_up: bool) -> Result<(), SinkFault>
-    ensures { Writes writer.old (texts (warning_members is_given_up None)) result writer.new }
+    ensures { Writes writer.old (warnings_members is_given_up None) result writer.new }
 {
     if is_given_up {
         put_warning_as(writer, Value::Null, Value::Flag(false))

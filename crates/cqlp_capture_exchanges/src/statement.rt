@@ -120,7 +120,7 @@ fn text_of(len: u16, content: &[u8]) -> Statement<'_>
 }
 
 /// The longest front of bytes that is UTF-8.
-fn text_front(bytes: &[u8]) -> &str
+pub(crate) fn text_front(bytes: &[u8]) -> &str
     ensures { result.now ≡ take (utf8_valid_len bytes.now) bytes.now }
 {
     match str::from_utf8(bytes) {

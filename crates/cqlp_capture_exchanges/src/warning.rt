@@ -1,25 +1,48 @@
-//! The first warning of a response.
+//! The warnings of a response.
 
-ghost use Rattle.std.specs.Prelude.{◌≡◌, option_map};
-ghost use Rattle.cqlp_capture_exchanges.specs.Statements.{said_of};
-ghost use Rattle.cqlp_capture_exchanges.specs.Warnings.{behind_trace_id, first_warning, warning};
+ghost use Rattle.std.specs.Prelude.{◌≡◌, option_map, drop, take};
+ghost use Rattle.cqlp_capture_exchanges.specs.Warnings.{are_whole, behind_trace_id, first_of, listed, listed_of, none_listed, taken_of, warned_in};
+ghost use Rattle.cqlp_capture_exchanges.specs.Warnings.{texts_in, warned_of, warnings_in};
 
-use crate::statement::{Statement, has, string_in};
+use crate::statement::{has, text_front};
 use cqlp_note::Header;
 
-/// The first warning of a response, by the bytes before its message: the longest front of its text that is UTF-8, which is whole where it is as long as
-/// the length before it says. `None` where there is none, where the length is not there, and where the body is compressed, by the header's flags.
-/// Section 2.2 of `native_protocol_v4.spec`.
-pub(crate) fn warning_of<'a>(header: &Header, announced: &'a [u8]) -> Option<Statement<'a>>
-    ensures { option_map said_of result ≡ warning header.now announced.now }
+/// A warning, as far as it is there: the longest front of its text that is UTF-8, which is whole where it is as long as the length before it says.
+#[derive(Clone, Copy)]
+pub(crate) struct Warning<'a> {
+    pub text: &'a str,
+    pub is_whole: bool,
+}
+
+/// Warnings, one after the other, up to the first one whose length is not there.
+#[derive(Clone, Copy)]
+pub(crate) struct Warnings<'a> {
+    /// How many there are to be.
+    pub left: u16,
+    pub bytes: &'a [u8],
+}
+
+/// The warnings of a response, by the bytes before its message; none where the body is compressed, by the header's flags. Section 2.2 of
+/// `native_protocol_v4.spec`.
+pub(crate) fn warnings_of<'a>(header: &Header, announced: &'a [u8]) -> Warnings<'a>
+    ensures { listed_of result ≡ warnings_in header.now announced.now }
 {
     if has(header.flags, 0x01) {
-        return None;
+        return no_warnings();
     }
     if has(header.flags, 0x08) {
-        first_warning(behind_trace_id(header.flags, announced))
+        listed(behind_trace_id(header.flags, announced))
     } else {
-        None
+        no_warnings()
+    }
+}
+
+fn no_warnings() -> Warnings<'static>
+    ensures { listed_of result ≡ none_listed }
+{
+    Warnings {
+        left: 0,
+        bytes: &[],
     }
 }
 
@@ -34,13 +57,66 @@ fn behind_trace_id(flags: u8, announced: &[u8]) -> &[u8]
     }
 }
 
-/// The first string of a \[string list\]. Section 3 of `native_protocol_v4.spec`.
-fn first_warning(bytes: &[u8]) -> Option<Statement<'_>>
-    ensures { option_map said_of result ≡ first_warning bytes.now }
+/// The strings of a \[string list\]. Section 3 of `native_protocol_v4.spec`.
+fn listed(bytes: &[u8]) -> Warnings<'_>
+    ensures { listed_of result ≡ listed bytes.now }
 {
-    let (count, rest) = bytes.split_first_chunk::<2>()?;
-    if u16::from_be_bytes(*count) == 0 {
-        return None;
+    match bytes.split_first_chunk::<2>() {
+        Some((count, rest)) => Warnings {
+            left: u16::from_be_bytes(*count),
+            bytes: rest,
+        },
+        None => no_warnings(),
     }
-    string_in(rest)
+}
+
+impl<'a> Warnings<'a> {
+    /// The first one, and the others.
+    pub(crate) fn split_first(&self) -> Option<(Warning<'a>, Warnings<'a>)>
+        ensures { option_map taken_of result ≡ first_of (listed_of self.now) }
+    {
+        if self.left == 0 {
+            return None;
+        }
+        let (len, content) = self.bytes.split_first_chunk::<2>()?;
+        let len = u16::from_be_bytes(*len);
+        let others = Warnings {
+            left: self.left - 1,
+            bytes: behind(len, content),
+        };
+        Some((warning_in(len, content), others))
+    }
+
+    /// Whether all of the text of each of them is there.
+    pub(crate) fn are_whole(&self) -> bool
+        ensures { result ≡ are_whole (texts_in (listed_of self.now)) }
+    {
+        let mut rest = *self;
+        while let Some((warning, others)) = rest.split_first() {
+            if !warning.is_whole {
+                return false;
+            }
+            rest = others;
+        }
+        true
+    }
+}
+
+/// A warning of so many bytes, as far as it is there.
+fn warning_in(len: u16, content: &[u8]) -> Warning<'_>
+    ensures { warned_of result ≡ warned_in len content.now }
+{
+    let there = content.len().min(len as usize);
+    let text = text_front(&content[..there]);
+    Warning {
+        text,
+        is_whole: text.len() == len as usize,
+    }
+}
+
+/// What comes behind so many bytes.
+fn behind(len: u16, content: &[u8]) -> &[u8]
+    ensures { result.now ≡ drop len content.now }
+{
+    &content[content.len().min(len as usize)..]
 }

@@ -15,7 +15,8 @@ use crate::cqlp_capture_exchanges::reply::{Reply, error_name, kind_name, message
 use crate::cqlp_capture_exchanges::report::{ConnectionEnd, Report};
 use crate::cqlp_capture_exchanges::span::{Span, is_whole, time_between, took};
 use crate::cqlp_capture_exchanges::statement::{Statement, has, statement_of, statements_of};
-use crate::cqlp_capture_exchanges::warning::warning_of;
+use crate::cqlp_capture_exchanges::warning::{Warning, Warnings, warnings_of};
+use crate::cqlp_capture_exchanges::warning_texts::put_texts_fields;
 use crate::cqlp_capture_summary::Summary;
 use crate::cqlp_grammar::SinkFault;
 use crate::cqlp_json::put_word;
@@ -28,14 +29,14 @@ const NAMES: &str =
     "told,time,utc,client,node,connection,stream,request,request_bytes,request_is_whole,request_is_compressed,statements,\
     statement,id,statement_is_whole,consistency,page_size,has_paging_state,response,response_bytes,response_is_whole,\
     response_is_compressed,result,error,message,message_is_whole,rows,columns,has_more_pages,warnings,warning,\
-    warning_is_whole,tracing_id,took,connection_end,protocol,version\r\n";
+    warning_is_whole,warning_texts,warning_texts_are_whole,tracing_id,took,connection_end,protocol,version\r\n";
 
 /// In place of the fields of a request, of a response, and of all between a connection's number and its protocol.
 const NO_REQUEST: &[u8] = b",,,,,,,,,,,";
 
-const NO_RESPONSE: &[u8] = b",,,,,,,,,,,,,,,";
+const NO_RESPONSE: &[u8] = b",,,,,,,,,,,,,,,,,";
 
-const NO_MESSAGE: &[u8] = b",,,,,,,,,,,,,,,,,,,,,,,,,,,,,";
+const NO_MESSAGE: &[u8] = b",,,,,,,,,,,,,,,,,,,,,,,,,,,,,,,";
 
 /// Takes the record of a report of this connection, in a capture whose first packet came at this time, behind one with the names of the fields if it is
 /// the first, and passes it on.
@@ -376,27 +377,46 @@ fn put_known<P: Pen>(
     response: &SeenMessage<Kept>,
 ) -> Result<(), SinkFault> {
     let facts = response.kept.facts();
-    let warning = warning_of(&response.frame.header, response.kept.announced());
+    let warnings = warnings_of(&response.frame.header, response.kept.announced());
     put_result(writer, &facts)?;
-    put_warning(writer, response.kept.is_text_dropped(), &warning)?;
+    put_warnings(writer, response.kept.is_text_dropped(), &warnings)?;
     put_tracing(writer, &facts)
 }
 
-/// Takes the first warning of a response.
-fn put_warning<P: Pen>(
+/// Takes the warnings of a response.
+fn put_warnings<P: Pen>(
     writer: &mut TextWriter<P>,
     is_given_up: bool,
-    warning: &Option<Statement<'_>>,
+    warnings: &Warnings<'_>,
 ) -> Result<(), SinkFault> {
-    match warning {
-        Some(Statement::Text { text, is_whole }) => {
-            put_fields(writer, &[Value::Text(text), Value::Flag(*is_whole)])
-        }
-        Some(Statement::Id { .. }) => {
-            put_fields(writer, &[Value::Null, none_whole(is_given_up)])
-        }
-        None => put_fields(writer, &[Value::Null, none_whole(is_given_up)]),
+    match warnings.split_first() {
+        Some((first, others)) => put_known_warnings(writer, &first, &others),
+        None => put_no_warning(writer, is_given_up),
     }
+}
+
+fn put_no_warning<P: Pen>(writer: &mut TextWriter<P>, is_given_up: bool) -> Result<(), SinkFault> {
+    put_fields(
+        writer,
+        &[
+            Value::Null,
+            none_whole(is_given_up),
+            Value::Null,
+            Value::Null,
+        ],
+    )
+}
+
+fn put_known_warnings<P: Pen>(
+    writer: &mut TextWriter<P>,
+    first: &Warning<'_>,
+    others: &Warnings<'_>,
+) -> Result<(), SinkFault> {
+    put_fields(
+        writer,
+        &[Value::Text(first.text), Value::Flag(first.is_whole)],
+    )?;
+    put_texts_fields(writer, first, others)
 }
 
 fn put_tracing<P: Pen>(writer: &mut TextWriter<P>, facts: &Facts) -> Result<(), SinkFault> {

@@ -15,7 +15,8 @@ use crate::cqlp_capture_exchanges::report::{ConnectionEnd, Report};
 use crate::cqlp_capture_exchanges::span::{Unit, is_whole, put_time, time_between, took};
 use crate::cqlp_capture_exchanges::statement::{Statement, has, statement_of, statements_of};
 use crate::cqlp_capture_exchanges::utc::put_utc;
-use crate::cqlp_capture_exchanges::warning::warning_of;
+use crate::cqlp_capture_exchanges::warning::warnings_of;
+use crate::cqlp_capture_exchanges::warning_texts::{WarningForm, put_other_texts};
 use crate::cqlp_capture_summary::put_shown_text;
 use crate::cqlp_grammar::SinkFault;
 use crate::cqlp_note::{Header, Target};
@@ -378,7 +379,7 @@ fn put_error_message<P: Pen>(
     put_numbers(writer, &details)
 }
 
-/// Takes how many warnings a response has, and the first one.
+/// Takes how many warnings a response has, and their texts.
 fn put_warnings<P: Pen>(
     writer: &mut TextWriter<P>,
     count: Option<u16>,
@@ -397,10 +398,10 @@ fn put_known_warnings<P: Pen>(
     header: &Header,
     announced: &[u8],
 ) -> Result<(), SinkFault> {
-    let warning = warning_of(header, announced);
+    let warnings = warnings_of(header, announced);
     writer.put(b" warnings ")?;
     writer.put_number(u64::from(count))?;
-    put_statement(writer, &warning)
+    put_other_texts(writer, WarningForm::Line, &warnings)
 }
 
 /// Takes the tracing id of a response.

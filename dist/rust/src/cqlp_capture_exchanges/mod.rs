@@ -43,6 +43,7 @@ mod table;
 mod table_name;
 mod utc;
 mod warning;
+mod warning_texts;
 
 pub(crate) use capturing::{write_exchanges};
 pub use exchanges::Exchanges;

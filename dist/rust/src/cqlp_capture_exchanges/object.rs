@@ -15,7 +15,8 @@ use crate::cqlp_capture_exchanges::reply::{Reply, error_name, kind_name, message
 use crate::cqlp_capture_exchanges::report::{ConnectionEnd, Report};
 use crate::cqlp_capture_exchanges::span::{Span, is_whole, time_between, took};
 use crate::cqlp_capture_exchanges::statement::{Statement, has, statement_of, statements_of};
-use crate::cqlp_capture_exchanges::warning::warning_of;
+use crate::cqlp_capture_exchanges::warning::{Warning, Warnings, warnings_of};
+use crate::cqlp_capture_exchanges::warning_texts::put_texts_members;
 use crate::cqlp_grammar::SinkFault;
 use crate::cqlp_note::Target;
 use crate::cqlp_observer::{Facts, SeenFrame, Kept, SeenMessage, Opening, Paired};
@@ -421,27 +422,31 @@ fn put_known<P: Pen>(
     response: &SeenMessage<Kept>,
 ) -> Result<(), SinkFault> {
     let facts = response.kept.facts();
-    let warning = warning_of(&response.frame.header, response.kept.announced());
+    let warnings = warnings_of(&response.frame.header, response.kept.announced());
     put_result(writer, &facts)?;
-    put_warning(writer, response.kept.is_text_dropped(), &warning)?;
+    put_warnings(writer, response.kept.is_text_dropped(), &warnings)?;
     put_tracing(writer, &facts)
 }
 
-/// Takes the first warning of a response.
-fn put_warning<P: Pen>(
+/// Takes the warnings of a response.
+fn put_warnings<P: Pen>(
     writer: &mut TextWriter<P>,
     is_given_up: bool,
-    warning: &Option<Statement<'_>>,
+    warnings: &Warnings<'_>,
 ) -> Result<(), SinkFault> {
-    match warning {
-        Some(Statement::Text { text, is_whole }) => {
-            put_warning_as(writer, Value::Text(text), Value::Flag(*is_whole))
-        }
-        Some(Statement::Id { .. }) => {
-            put_warning_as(writer, Value::Null, none_whole(is_given_up))
-        }
+    match warnings.split_first() {
+        Some((first, others)) => put_known_warnings(writer, &first, &others),
         None => put_no_warning(writer, is_given_up),
     }
+}
+
+fn put_known_warnings<P: Pen>(
+    writer: &mut TextWriter<P>,
+    first: &Warning<'_>,
+    others: &Warnings<'_>,
+) -> Result<(), SinkFault> {
+    put_warning_as(writer, Value::Text(first.text), Value::Flag(first.is_whole))?;
+    put_texts_members(writer, first, others)
 }
 
 /// The same where there is none, in one go where that is known, as it mostly is.

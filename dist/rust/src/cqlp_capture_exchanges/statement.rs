@@ -97,7 +97,7 @@ fn text_of(len: u16, content: &[u8]) -> Statement<'_> {
 }
 
 /// The longest front of bytes that is UTF-8.
-fn text_front(bytes: &[u8]) -> &str {
+pub(crate) fn text_front(bytes: &[u8]) -> &str {
     match core::str::from_utf8(bytes) {
         Ok(text) => text,
         // SAFETY: the bytes up to there are UTF-8.

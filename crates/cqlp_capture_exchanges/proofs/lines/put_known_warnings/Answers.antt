@@ -1,5 +1,6 @@
 use Rattle.std.proofs.Common.{ap, decimal, refl}
-use Rattle.cqlp_capture_exchanges.specs.Lines.{statement_text}
+use Rattle.cqlp_capture_exchanges.specs.WarningTexts.{other_texts}
+use Rattle.cqlp_capture_exchanges.specs.declared.warning_texts.WarningForm.TheVariants as form
 use Rattle.cqlp_text.proofs.Writing.{progress_starts}
 use Rattle.cqlp_capture_exchanges.proofs.Texts.{said_last, said_next, said_stops}
 use Rattle.cqlp_capture_exchanges.proofs.lines.put_known_warnings.Goals as goal
@@ -17,4 +18,4 @@ pub returns : goal.returns
 returns g c =
     let s1 = said_next _ (progress_starts _ _) refl refl c.in_ok-put.ensures in
     let s2 = said_next _ s1 refl (ap decimal c.from.ensures) c.in_ok-put_number.ensures in
-    said_last _ _ c.put_statement.result s2 refl (ap statement_text c.warning_of-warning.ensures) c.put_statement.ensures
+    said_last _ _ c.put_other_texts.result s2 refl (ap (other_texts form.Line) c.warnings_of-warnings.ensures) c.put_other_texts.ensures
