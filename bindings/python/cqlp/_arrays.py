@@ -13,7 +13,7 @@ from ._decoder import _KINDS, BadCall, Behind, Decoder, Limits, Placed, Refusal,
 from ._events import Event
 from ._item_arrays import ITEMS, Members, members_of
 from ._missing import ColumnsMissing, Missing, numpy_of
-from ._pages import _NO_METADATA, _ROWS_RESULT, Row, Types, _cells, _Metadata
+from ._pages import _NO_METADATA, _ROWS_RESULT, Row, Types, _cells, _Metadata, _new
 from ._sources import Progress, Source, _must_be_whole, _pieces, _pieces_of_frames
 from ._turns import Error
 from ._types import Column, Type, column_text
@@ -294,7 +294,9 @@ class _Arrays:
     def begin(self, kinds: Tuple[int, ...], rows: int, body: int) -> None:
         """Makes columns without rows for a page with values of these kinds, with this many rows and in a body of this many bytes. Those that
         are there are used again where they are as large."""
-        sizes, most = self.sizes_for(kinds, rows, body), self.sizes_for(kinds, self.rows, 1 << 32)
+        width, widths = len(kinds), [_FIXED.get(kind, 0) for kind in set(kinds)]
+        widest = max(widths) if all(widths) else None
+        sizes, most = self.sizes_for(width, widest, rows, body), self.sizes_for(width, widest, self.rows, 1 << 32)
         if not self.store.serves(kinds, sizes, most):
             self.store = _taken_spare()
         if self.store.serves(kinds, sizes, most):
@@ -302,13 +304,12 @@ class _Arrays:
         else:
             self.store = _Store(kinds, sizes)
 
-    def sizes_for(self, kinds: Tuple[int, ...], rows: int, body: int) -> Tuple[int, int, int]:
-        """How many rows, how many bytes of values before the last row, and how many bytes of one value, such that all columns together have no
-        more than the memory, and none has more than the page needs."""
-        share = self.memory // len(kinds)
+    def sizes_for(self, width: int, widest: Optional[int], rows: int, body: int) -> Tuple[int, int, int]:
+        """How many rows, how many bytes of values before the last row, and how many bytes of one value, such that so many columns together have no
+        more than the memory, and none has more than the page needs. `widest` is how many bytes their values have at most that all have a fixed length."""
+        share = self.memory // width
         most = max(1, min(self.rows, share // 32, rows))
-        if all(kind in _FIXED for kind in kinds):
-            widest = max(_FIXED[kind] for kind in kinds)
+        if widest is not None:
             return most, widest * most, widest
         return most, max(1, min(64 * self.rows, share // 4, body)), max(16, min(self.limits.cell, share // 4, body))
 
@@ -318,14 +319,19 @@ class _Arrays:
         if _batches:
             count, found = _batches.copied(_GET, ctypes.addressof(self.handle), width)
             arrays = [
-                ColumnArray(column, _KINDS[kind], count, values, offsets, validity, empties)
+                _new(ColumnArray, (column, _KINDS[kind], count, values, offsets, validity, empties, (), "decimal"))
                 for column, (kind, values, offsets, validity, empties) in zip(described, found)
             ]
         else:
-            count = self.view(width - 1)[6]
+            count = self.count()
             arrays = [_array_of(self.view(at), column, count) for at, column in zip(range(width), described)]
         _native.library.cqlp_columns_clear(self.handle)
         return arrays
+
+    def count(self) -> int:
+        """How many whole rows came."""
+        found: int = self.view(len(self.store.kinds) - 1)[6]
+        return found
 
     def view(self, at: int) -> Tuple[Any, ...]:
         """Where the arrays of a column lie."""
@@ -519,9 +525,9 @@ class _Reader:
             return
         if metadata.width > self.arrays.limits.entries:
             raise BadCall(Code.TOO_MANY_COLUMNS)
-        kinds = tuple(int(one.type.kind) for one in columns) if typed and columns else (int(Kind.RAW),) * metadata.width
+        kinds = tuple([int(one.type.kind) for one in columns]) if typed and columns else (int(Kind.RAW),) * metadata.width
         self.nested, self.cells, self.rows = None, None, []
-        left = {kind for kind, column in zip(kinds, columns) if not self.is_wanted(column)}
+        left = {kind for kind, column in zip(kinds, columns) if not self.is_wanted(column)} if self.names is not None else set()
         if _compiled and (ITEMS & set(kinds) or not left <= _FIXED.keys()):  # columns that are left out hold nothing then
             self.types = [(column.type if typed else Type(Kind.RAW)) if self.is_wanted(column) else None for column in columns]
             self.nested = _compiled.Nested(tuple(self.types), self.arrays.rows, self.arrays.memory)
@@ -536,6 +542,8 @@ class _Reader:
         if self.page is None:
             return
         page, first = self.page, self.first
+        if last and first and not (self.nested or self.cells or self.arrays.count()):
+            return  # its last row filled a batch
         if self.nested:
             count, built = self.nested.arrays()
             wanted = [(type, column) for type, column in zip(self.types, page.columns) if type is not None]
@@ -544,7 +552,9 @@ class _Reader:
             count, arrays = len(self.rows), self.of_rows(page.columns)
         else:
             arrays = self.arrays.take(page.columns)
-            count, arrays = arrays[-1].cells, [one for one in arrays if self.is_wanted(one.column)]
+            count = arrays[-1].cells
+            if self.names is not None:
+                arrays = [one for one in arrays if self.is_wanted(one.column)]
         self.first += count
         if self.decimals != "decimal":
             arrays = [one._with(self.decimals) for one in arrays]
@@ -563,8 +573,10 @@ class _Reader:
 
     def must_have_names(self, columns: Tuple[Column, ...]) -> None:
         """Raises ColumnsMissing where one of the names is of no column. A page without metadata has no names."""
+        if self.names is None:
+            return
         found = tuple(column.name for column in columns)
-        missing = (self.names or frozenset()).difference(found)
+        missing = self.names.difference(found)
         if columns and missing:
             raise ColumnsMissing(self.pages, tuple(sorted(missing)), found)
 
@@ -602,7 +614,7 @@ def arrays(
     source: Source,
     limits: Limits = Limits(),
     *,
-    rows: int = 8192,
+    rows: int = 4096,
     memory: int = 1 << 26,
     piece: int = 1 << 18,
     progress: Optional[Progress] = None,

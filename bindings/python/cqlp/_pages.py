@@ -15,6 +15,8 @@ from .numbers import Code, End, Field, Kind, Mark, Tag
 _compiled: Any = _native.compiled("_cells")
 
 Row = Tuple[ValueOf, ...]
+# Makes a named tuple of its values, as its type does when it is called, in half the time.
+_new: Any = tuple.__new__
 _ROWS_RESULT = 2
 _NO_METADATA = 0x04
 _TEXTS = (Kind.ASCII, Kind.VARCHAR)
@@ -176,14 +178,17 @@ class _Metadata:
 
     def add_found(self, found: List[Any]) -> None:
         """Takes what `before` of _batches.c found."""
-        words = self.words
+        words, columns = self.words, self.columns
+        keyspace, table, name = (words.get(field, "") for field in _SPEC)
         for one in found:
             if type(one) is int:
-                self.columns.append(Column(words.get(_KEYSPACE, ""), words.get(_TABLE, ""), words[_NAME], PLAIN[one]))
+                columns.append(_new(Column, (keyspace, table, name, PLAIN[one])))
             elif type(one) is str:
-                words[_NAME] = one
+                words[_NAME] = name = one
             else:
                 self.add(event_of(*one))
+                columns = self.columns
+                keyspace, table, name = (words.get(field, "") for field in _SPEC)
 
     def add(self, event: Event) -> None:
         if self.types.open or event.tag == Tag.TYPE_NODE:

@@ -47,7 +47,7 @@ class Missing(unittest.TestCase):
     @unittest.skipUnless(numpy, "NumPy is not there")
     def test_masked_arrays(self) -> None:
         chance = random.Random(5)
-        for count in (1, 3, 8, 9, 64, 1000, 5000):
+        for count in (1, 3, 8, 9, 64, 1000, 4000):
             cells = [None if chance.random() < 0.3 else chance.randrange(-9, 10**9) for _ in range(count)]
             for column in columns(page(cells)):
                 masked = column.numpy(missing="mask")
