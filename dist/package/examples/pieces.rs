@@ -2,7 +2,7 @@
 //! pieces of 16 bytes, which cut frames and fields anywhere, and counts frames and cells.
 #![forbid(unsafe_code)]
 
-use cqlp::{Decoder, Event, Limits, Refusal, Step};
+use cqlp::{Decoder, Event, Fed, Limits, Sink, SinkFault};
 use std::error::Error;
 use std::io::{Read, Write, stdin, stdout};
 
@@ -13,8 +13,8 @@ struct Seen {
     cells: u64,
 }
 
-impl Seen {
-    fn add(&mut self, event: &Event<'_>) {
+impl Sink for Seen {
+    fn take(&mut self, _at: u64, event: &Event<'_>) -> Result<(), SinkFault> {
         match event {
             Event::Frame(_) => self.frames += 1,
             Event::Leaf { level: 0, .. } | Event::Enter { level: 0, .. } | Event::Null { level: 0, .. } | Event::Empty { level: 0, .. } => {
@@ -22,21 +22,7 @@ impl Seen {
             }
             _ => {}
         }
-    }
-}
-
-/// Takes all events of a piece, the end of a frame too, which takes a call without bytes. The rest of an item that a piece cuts is in the next.
-fn pull(decoder: &mut Decoder, piece: &[u8], seen: &mut Seen) -> Result<(), Refusal> {
-    let mut used = 0;
-    loop {
-        match decoder.next(&piece[used..]) {
-            Step::Event { used: taken, event, .. } => {
-                seen.add(&event);
-                used += taken;
-            }
-            Step::More { .. } => return Ok(()),
-            Step::Refused(refusal) => return Err(refusal),
-        }
+        Ok(())
     }
 }
 
@@ -46,7 +32,8 @@ pub(crate) fn report(input: &mut dyn Read, out: &mut dyn Write) -> Result<(), Bo
     let mut piece = [0; 16];
     loop {
         let count = input.read(&mut piece)?;
-        if count == 0 || pull(&mut decoder, &piece[..count], &mut seen).is_err() {
+        // All events that the piece decides, the end of a frame too. The rest of an item that it cuts is in the next.
+        if count == 0 || decoder.feed(&piece[..count], &mut seen) != Fed::More {
             break;
         }
     }
