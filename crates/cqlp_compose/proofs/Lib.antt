@@ -22,3 +22,4 @@ pub mod OneEvent
 pub mod WholeCells
 pub mod Refusals
 pub mod CellPages
+mod ColumnKinds

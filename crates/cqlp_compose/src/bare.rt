@@ -1,23 +1,25 @@
 //! Pages that have no cells yet, and cells of one event.
 
-ghost use Rattle.std.specs.Prelude.{◌≡◌, ◌++◌, ◌≤◌, ◌<◌, ◌+◌, ◌^◌, IfSome, drop, length};
+ghost use Rattle.std.specs.Prelude.{◌≡◌, ◌++◌, ◌≤◌, ◌<◌, ◌+◌, ◌^◌, IfNone, IfSome, drop, length};
 ghost use Rattle.cqlp_kind.specs.Contents.{value_of};
 ghost use Rattle.cqlp_grammar.specs.Events.{event_of};
 ghost use Rattle.cqlp_message.specs.Owned.{frame_of};
 ghost use Rattle.cqlp_message.specs.Pages as pages;
-ghost use Rattle.cqlp_compose.specs.Bare.{IsKindAt, IsSizeOf, bare_frame, event_bytes};
-ghost use Rattle.cqlp_compose.specs.Single.{cell_bytes};
+ghost use Rattle.cqlp_note.specs.declared.header.TheConstants.Header.{LONGEST_BODY};
+ghost use Rattle.cqlp_compose.specs.Bare.{AnswersKinds, AreKindsOf, IsKindAt, IsNoKindAt, IsSizeOf, bare_frame, event_bytes};
+ghost use Rattle.cqlp_compose.specs.Single.{HasNoCell, cell_bytes};
 ghost use Rattle.cqlp_compose.specs.Begun as model;
 ghost use Rattle.cqlp_compose.specs.Begun.{BeginsBare, IsBare};
 ghost use Rattle.cqlp_compose.specs.Composing.{composed};
 
-use crate::column::column_type;
+use crate::column::described;
 use crate::composer::Composer;
-use crate::error::BeginError;
+use crate::error::{BeginError, KindsError};
+use crate::kinds::{kind_in, kinds_of};
 use crate::page::{BegunPage, bare_page, begun, said_len};
 use crate::put::is_at;
 use crate::scalar::{Content, scalar_content};
-use crate::single::{WholeCell, plain_kind, scalar_cell};
+use crate::single::{WholeCell, scalar_cell};
 use cqlp_grammar::Event;
 use cqlp_kind::{Kind, Scalar};
 use cqlp_message::Frame;
@@ -68,11 +70,23 @@ impl BarePage {
         self.frame.cells_wanted()
     }
 
-    /// The kind of the cell before which `cells` others come, if this is its row and its column, and its type has no inner types; else None.
+    /// The kinds of the columns that it describes, in their order, for [`BarePage::kind_at`]: a byte for each.
+    ///
+    /// # Errors
+    ///
+    /// [`KindsError::Nested`] where values of a column have items. [`KindsError::NoMemory`] where memory was refused.
+    pub fn kinds(&self, alloc: Global) -> Result<Vec<Kind>, KindsError>
+        ensures { AnswersKinds self.now.frame result }
+    {
+        kinds_of(alloc, described(&self.frame))
+    }
+
+    /// The kind of the cell before which `cells` others come, if this is its row and its column, where `kinds` are those of its columns; else None.
     #[must_use]
     #[inline(always)]
-    pub fn kind_at(&self, cells: u64, row: u32, column: u32) -> Option<Kind>
-        ensures { IfSome result (λ kind. IsKindAt self.now.frame cells row column kind) }
+    pub fn kind_at(&self, kinds: &[Kind], cells: u64, row: u32, column: u32) -> Option<Kind>
+        ensures some { AreKindsOf self.now.frame kinds.now → IfSome result (λ kind. IsKindAt self.now.frame cells row column kind) }
+        ensures none { IfNone result (IsNoKindAt self.now.frame cells row column) }
     {
         if cells >= self.frame.cells_wanted() {
             return None;
@@ -80,7 +94,7 @@ impl BarePage {
         if !is_at(cells, self.frame.columns(), row, column) {
             return None;
         }
-        plain_kind(column_type(&self.frame, column as usize))
+        Some(kind_in(kinds, column as usize))
     }
 }
 
@@ -89,7 +103,8 @@ impl BarePage {
 #[must_use]
 #[inline(always)]
 pub fn scalar_size(scalar: &Scalar<'_>, kind: Kind) -> Option<u64>
-    ensures { IfSome result (λ size. IsSizeOf kind (value_of scalar.now) size) }
+    ensures some { IfSome result (λ size. IsSizeOf kind (value_of scalar.now) size) }
+    ensures none { IfNone result (HasNoCell LONGEST_BODY kind (value_of scalar.now)) }
 {
     match scalar_cell(scalar, kind, Header::LONGEST_BODY) {
         Some(cell) => Some(cell.size() as u64),

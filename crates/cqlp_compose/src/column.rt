@@ -1,6 +1,6 @@
 //! The columns of a page.
 
-ghost use Rattle.std.specs.Prelude.{◌≡◌, option_map};
+ghost use Rattle.std.specs.Prelude.{◌≡◌, ℕ, option_map};
 ghost use Rattle.cqlp_compose.specs.Places as model;
 
 use cqlp_message::{Frame, Message, Spec};
@@ -20,7 +20,20 @@ pub fn column_type(frame: &Frame, column: usize) -> Option<&TypeTree>
     }
 }
 
-/// The same of these columns.
+/// The columns that a page describes; none where it describes none, or is no page.
+pub fn described(frame: &Frame) -> &[Spec]
+    ensures { (column : ℕ) → model.type_at result.now column ≡ model.described_type frame.now column }
+{
+    match &frame.message {
+        Message::Rows(page) => match &page.meta.specs {
+            Some(specs) => specs,
+            None => &[],
+        },
+        _ => &[],
+    }
+}
+
+/// The type of one of these columns.
 #[inline(always)]
 fn spec_type(specs: &[Spec], column: usize) -> Option<&TypeTree>
     ensures { option_map (λ t. t.now) result ≡ model.type_at specs.now column }

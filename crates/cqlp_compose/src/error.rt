@@ -44,6 +44,17 @@ pub enum BeginError {
     Unfit(Unfit),
 }
 
+/// Why there is no list of the kinds of a page's columns.
+#[derive(Clone, Copy, Debug, PartialEq, Eq, Error)]
+pub enum KindsError {
+    /// Values of a column have items.
+    #[error("values with items")]
+    Nested,
+    /// Memory was refused.
+    #[error("no memory")]
+    NoMemory,
+}
+
 /// Why an event of a cell is not taken, or its cell is not put.
 #[derive(Clone, Copy, Debug, PartialEq, Eq, Error)]
 pub enum PutError {

@@ -1,13 +1,15 @@
 // Written by dist/erase from crates/cqlp_compose/src/bare.rt.
 //! Pages that have no cells yet, and cells of one event.
 
-use crate::cqlp_compose::column::column_type;
+use crate::kit_std::prelude::{Vec};
+use crate::cqlp_compose::column::described;
 use crate::cqlp_compose::composer::Composer;
-use crate::cqlp_compose::error::BeginPageError;
+use crate::cqlp_compose::error::{BeginPageError, KindsError};
+use crate::cqlp_compose::kinds::{kind_in, kinds_of};
 use crate::cqlp_compose::page::{BegunPage, bare_page, begun, said_len};
 use crate::cqlp_compose::put::is_at;
 use crate::cqlp_compose::scalar::{Content, scalar_content};
-use crate::cqlp_compose::single::{WholeCell, plain_kind, scalar_cell};
+use crate::cqlp_compose::single::{WholeCell, scalar_cell};
 use crate::cqlp_grammar::Event;
 use crate::cqlp_kind::{Kind, Scalar};
 use crate::cqlp_message::Frame;
@@ -50,17 +52,26 @@ impl BarePage {
         self.frame.cells_wanted()
     }
 
-    /// The kind of the cell before which `cells` others come, if this is its row and its column, and its type has no inner types; else None.
+    /// The kinds of the columns that it describes, in their order, for [`BarePage::kind_at`]: a byte for each.
+    ///
+    /// # Errors
+    ///
+    /// [`KindsError::Nested`] where values of a column have items. [`KindsError::NoMemory`] where memory was refused.
+    pub fn kinds(&self) -> Result<Vec<Kind>, KindsError> {
+        kinds_of(described(&self.frame))
+    }
+
+    /// The kind of the cell before which `cells` others come, if this is its row and its column, where `kinds` are those of its columns; else None.
     #[must_use]
     #[inline(always)]
-    pub fn kind_at(&self, cells: u64, row: u32, column: u32) -> Option<Kind> {
+    pub fn kind_at(&self, kinds: &[Kind], cells: u64, row: u32, column: u32) -> Option<Kind> {
         if cells >= self.frame.cells_wanted() {
             return None;
         }
         if !is_at(cells, self.frame.columns(), row, column) {
             return None;
         }
-        plain_kind(column_type(&self.frame, column as usize))
+        Some(kind_in(kinds, column as usize))
     }
 }
 

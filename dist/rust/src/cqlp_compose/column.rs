@@ -16,7 +16,18 @@ pub fn column_type(frame: &Frame, column: usize) -> Option<&TypeTree> {
     }
 }
 
-/// The same of these columns.
+/// The columns that a page describes; none where it describes none, or is no page.
+pub fn described(frame: &Frame) -> &[Spec] {
+    match &frame.message {
+        Message::Rows(page) => match &page.meta.specs {
+            Some(specs) => specs,
+            None => &[],
+        },
+        _ => &[],
+    }
+}
+
+/// The type of one of these columns.
 #[inline(always)]
 fn spec_type(specs: &[Spec], column: usize) -> Option<&TypeTree> {
     match specs.get(column) {

@@ -51,6 +51,19 @@ pub enum BeginPageError {
 }
 
 error! {
+/// Why there is no list of the kinds of a page's columns.
+#[derive(Clone, Copy, Debug, PartialEq, Eq)]
+pub enum KindsError {
+    /// Values of a column have items.
+    #[error("values with items")]
+    Nested,
+    /// Memory was refused.
+    #[error("no memory")]
+    NoMemory,
+}
+}
+
+error! {
 /// Why an event of a cell is not taken, or its cell is not put.
 #[derive(Clone, Copy, Debug, PartialEq, Eq)]
 pub enum PutError {
