@@ -790,7 +790,7 @@ static inline uint32_t cqlp_write_header(const cqlp_header *fields, uint8_t byte
  * whether it has 4 or 16 bytes. The cells of a page have the types of its columns, and are raw where the page describes none.
  * Where there is no event, no content or no room, its pointer may be null. It asks for memory for a copy of the contents, for each event, for the
  * values of a page, and for the bytes of the frame, and gives all of it back. Of a page that it writes, whose cells are each one event, a leaf, a null or
- * an empty value of a column without inner types, it asks for memory for what comes before the cells alone.
+ * an empty value of a column without inner types, it asks for memory for what comes before the cells, and a byte for each column, alone.
  * Answers CQLP_DONE, and the bytes after the frame are as they were; what was written is read as these events by a decoder whose limits allow it.
  * Else all bytes are as they were:
  * - CQLP_NO_ROOM: `length` says how many bytes the frame has. So a call with a `room` of 0 measures it.
@@ -828,7 +828,8 @@ static inline uint32_t cqlp_page_measure(const cqlp_event *events, size_t count,
  * - CQLP_NO_ROOM: `length` says how many bytes the head has.
  * - Of the event that `event` names, and the first that is so: those of cqlp_encode; CQLP_NO_ROWS where the last one is no count of rows.
  * - Of all events together: CQLP_LEFT_OVER; CQLP_MISPLACED where no header or an end comes before the count; CQLP_NO_SUCH_FRAME where no page, also without
- *   rows, has this head, as in cqlp_encode; CQLP_NOT_PAGE; CQLP_TOO_MANY_ROWS; CQLP_BAD_LENGTH where the body would have more than 268435456 bytes.
+ *   rows, has this head, of which cqlp_encode of the same events names the first that does not fit; CQLP_NOT_PAGE; CQLP_TOO_MANY_ROWS; CQLP_BAD_LENGTH where
+ *   the body would have more than 268435456 bytes.
  * - CQLP_NO_MEMORY. */
 static inline uint32_t cqlp_page_begin(const cqlp_event *events, size_t count, const uint8_t *contents, size_t length, uint64_t size,
                                        uint8_t *bytes, size_t room, cqlp_page *page, cqlp_encoded *begun);

@@ -620,6 +620,35 @@ static void write_plain(void) {
   }
 }
 
+/* Pages of one column of texts, from no row to nine, of which one is null or none: the cells are written in four runs, of which the last may be longer. */
+static void write_few(void) {
+  static frame frame;
+  uint8_t *bytes;
+  cqlp_encoded encoded;
+  for (uint32_t rows = 0; rows < 10; rows++) {
+    for (uint32_t null = 0; null <= rows; null++) {
+      frame.count = frame.length = 0;
+      append(&frame, (cqlp_event){.tag = CQLP_TAG_FRAME, .opcode = CQLP_OPCODE_RESULT, .mark = CQLP_MARK_RESPONSE});
+      append_number(&frame, CQLP_TAG_INT, CQLP_FIELD_RESULT_KIND, CQLP_RESULT_ROWS);
+      append_number(&frame, CQLP_TAG_INT, CQLP_FIELD_META_FLAGS, 1);
+      append_number(&frame, CQLP_TAG_COUNT, CQLP_FIELD_COLUMNS, 1);
+      append_table(&frame);
+      append_text(&frame, CQLP_FIELD_COLUMN_NAME);
+      append_kind(&frame, CQLP_KIND_VARCHAR);
+      append_number(&frame, CQLP_TAG_COUNT, CQLP_FIELD_ROWS, rows);
+      for (uint32_t row = 0; row < rows; row++) {
+        size_t length = row == null ? 0 : 1 + row % 3;
+        append(&frame, (cqlp_event){.tag = row == null ? CQLP_TAG_NULL : CQLP_TAG_LEAF, .kind = CQLP_KIND_VARCHAR, .row = row, .length = length});
+        for (size_t n = 0; n < length; n++) frame.contents[frame.length++] = (uint8_t)('a' + row);
+      }
+      CHECK(encode(&frame, LONG, &bytes, &encoded) == CQLP_DONE && encoded.event == frame.count);
+      size_t length = encoded.length;
+      check_read(&frame, bytes, length);
+      CHECK(encode(&frame, length - 1, &bytes, &encoded) == CQLP_NO_ROOM && encoded.length == length);
+    }
+  }
+}
+
 static size_t bytes_of(const char *digits, uint8_t *bytes, size_t room) {
   size_t count = 0;
   unsigned byte;
@@ -649,6 +678,7 @@ int main(int count, char **words) {
   refuse_each();
   refuse_pages();
   write_plain();
+  write_few();
   if (count > 2) state = strtoull(words[2], NULL, 10) | 1;
   write_changed(count > 1 ? strtoul(words[1], NULL, 10) : 100000);
   for (size_t i = 0; i < sizeof codes / sizeof *codes; i++)

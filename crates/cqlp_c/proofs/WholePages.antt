@@ -1,5 +1,5 @@
 -- Pages whose cells are each one event, of what C passes.
-use Rattle.std.proofs.Common.{◌≡◌, ℕ, suc, ◌+◌, ◌-◌, ◌<◌, ◌≤◌, ◌^◌, ◌++◌, inl, inr, false, List, [], ◌∷◌, length, drop, Option, None, Result, Ok, refl, sym, ap, ◌∙◌, subst, arith, append_assoc, append-nil}
+use Rattle.std.proofs.Common.{◌≡◌, ℕ, suc, ◌+◌, ◌-◌, ◌≤◌, ◌++◌, inl, inr, false, List, [], ◌∷◌, length, drop, Option, None, Result, Ok, refl, sym, ap, ◌∙◌, subst, arith, append_assoc, append-nil}
 use Rattle.std.proofs.lemmas.List.{length-append}
 use Rattle.std.specs.declared.alloc.Global.{Global}
 use Rattle.cqlp_note.specs.declared.header.Header.{Header}
@@ -16,7 +16,6 @@ use Rattle.cqlp_compose.specs.CellPages.{AreCells, IsCellPage, events_bytes}
 use Rattle.cqlp_compose.specs.Composing.{ComposerState, refusal_of, start, with_next}
 use Rattle.cqlp_compose.specs.Single as single
 use Rattle.cqlp_compose.proofs.CellPages.{cell_page, cell_taken, rows_free}
-use Rattle.cqlp_compose.proofs.WholeCells.{next_short}
 use Rattle.cqlp_c.specs.declared.encode.Unencoded.{Unencoded}
 use Rattle.cqlp_c.specs.declared.event.CqlpEvent.{CqlpEvent}
 use Rattle.cqlp_c.specs.declared.from_c.BadEvent.{BadEvent}
@@ -25,7 +24,7 @@ use Rattle.cqlp_c.specs.declared.whole_page.WholePage.{WholePage}
 use Rattle.cqlp_c.specs.Encoding.{IsEncoded, after_all, after_one, at_first, longest, on_from, unless, with_c_event}
 use Rattle.cqlp_c.specs.Encoding as encoding
 use Rattle.cqlp_c.specs.FromC.{content_len, event_from_c}
-use Rattle.cqlp_c.specs.WholePages.{AreNextCells, AreWritable, IsWithoutEnd, OpensWhole, ReadsRows, cells_bytes, found_bytes, page_bytes}
+use Rattle.cqlp_c.specs.WholePages.{AreNextCells, IsWithoutEnd, OpensWhole, ReadsRows, cells_bytes, found_bytes, page_bytes, quarters_bytes}
 use Rattle.cqlp_c.proofs.Encoded.{all_append}
 use Rattle.cqlp_c.proofs.PagesWritten.{first_of_all, has_header, is_due_next, is_open, one}
 
@@ -81,7 +80,6 @@ record CellsOf (f : Frame) (k : ℕ) (contents : List ℕ) (cs : List CqlpEvent)
   long : size ≡ length (events_bytes es)
   taken : (n : ℕ) (s : ComposerState) (x : Event) (xs : List Event) → s.ended ≡ false → s.frame.events ≡ x ∷ xs → length s.frame.events + length cs ≤ suc s.frame.limits.fields → size ≤ s.frame.room
       → CellsTaken n s contents cs es
-  writable : (n : ℕ) → size ≤ n → AreWritable cs contents n
 
 cells_of : (f : Frame) (cs : List CqlpEvent) (k : ℕ) (contents : List ℕ) (size : ℕ) → AreNextCells f k contents cs size → CellsOf f k contents cs size
 cells_of f [] k contents size w = record {
@@ -90,7 +88,6 @@ cells_of f [] k contents size w = record {
   bytes = refl;
   long = w.2;
   taken = λ n s x xs going first few fits. record { new = s; all = ap (λ (r : List ℕ). Ok (s, r)) w.0; events = sym (append-nil s.frame.events); going = going };
-  writable = λ n le. tt;
 }
 cells_of f (c ∷ cs) k contents size w =
     let next = w.2 in
@@ -121,12 +118,6 @@ cells_of f (c ∷ cs) k contents size w =
             events = q.events ∙ ap (λ (es : List Event). es ++ r.es) next_events ∙ append_assoc s.frame.events (e ∷ []) r.es;
             going = q.going;
           };
-      writable = λ n le.
-          let short : length (event_bytes e) < 2 ^ 32 + 4 = next_short f (after k) longest_cell e (event_bytes e) cell in
-          let fits : length (found_bytes (event_from_c c contents)) ≤ n = omega (arith, le, w.4, one_long, ap length here) in (
-            (e, read, subst (λ (b : List ℕ). length b < 2 ^ 32 + 4) (sym here) short, fits),
-            r.writable (n - length (found_bytes (event_from_c c contents))) (omega (arith, le, w.4, one_long, ap length here)),
-          );
     }
 
 -- ---- the head
@@ -187,16 +178,16 @@ with_end cs last contents s x xs all going first tag =
 
 -- What becomes of the events of a page whose cells were looked at.
 pub record Page (head cs : List CqlpEvent) (contents : List ℕ) (w : WholePage) : Type 0 where
-  pub written : (others : List CqlpEvent) → IsWithoutEnd others cs → IsEncoded (head ++ others) contents (page_bytes w cs)
-  pub writable : AreWritable cs w.contents.now w.size
-  pub long : w.size ≡ length (cells_bytes w.contents.now cs)
+  pub written : (others : List CqlpEvent) → IsWithoutEnd others cs → IsEncoded (head ++ others) contents (page_bytes w)
+  pub long : w.size ≡ length (quarters_bytes w.cells)
 
-module _ (g : Global) (head cs : List CqlpEvent) (contents : List ℕ) (w : WholePage) (o : OpensWhole head cs contents w) (few : length (head ++ cs) ≤ LONGEST_BODY) where
+module _ (g : Global) (head cs : List CqlpEvent) (contents : List ℕ) (w : WholePage) (o : OpensWhole head cs contents w) (next : AreNextCells o.frame 0 o.rest cs w.size)
+    (are : cells_bytes o.rest cs ≡ quarters_bytes w.cells) (few : length (head ++ cs) ≤ LONGEST_BODY) where
   abbrev rest : List ℕ
-  rest = w.contents.now
+  rest = o.rest
 
   abbrev cells : CellsOf o.frame 0 rest cs w.size
-  cells = cells_of o.frame cs 0 rest w.size o.cells
+  cells = cells_of o.frame cs 0 rest w.size next
 
   abbrev at_rows : HeadTaken head contents rest o.rows o.state
   at_rows = head_taken head contents rest o.rows o.state o.opens.0 o.opens.1.0
@@ -229,20 +220,19 @@ module _ (g : Global) (head cs : List CqlpEvent) (contents : List ℕ) (w : Whol
       let end = with_end (head ++ cs) last contents taken.new (FrameEvent header.0) (header.1 ++ rows_event o.rows ∷ cells.es) all_cells taken.going begins_first tag in
       subst (λ (ds : List CqlpEvent). AllTaken ds contents taken.new.frame.events) (append_assoc head cs (last ∷ []) ∙ ap (λ (ds : List CqlpEvent). head ++ ds) (sym is)) end
 
-  page_is : IsCellPage taken.new.frame.events (page_bytes w cs)
+  page_is : IsCellPage taken.new.frame.events (page_bytes w)
   page_is =
       let room : at_rows.new.frame.room ≤ LONGEST_BODY = (all_held head 0 (at_first contents) (at_rows.new, rest) at_rows.all).room in
       let small : length (events_bytes cells.es) ≤ LONGEST_BODY = omega (arith, cells.long, o.room, at_rows.room, room) in
       let begins = subst (λ (n : ℕ). BeginsBare (frame_of o.frame) (said_len n) (Ok o.begun)) cells.long o.begins in
       let p = cell_page g o.state header.0 header.1 o.rows o.frame o.begun cells.es header.2 o.opens.1 cells.are small begins in
-      subst (λ (es : List Event). IsCellPage es (page_bytes w cs)) (sym events_are)
-      (subst (λ (bytes : List ℕ). IsCellPage (o.state.frame.events ++ rows_event o.rows ∷ cells.es) bytes) (λ i. sym o.bytes i ++ cells.bytes i) p)
+      subst (λ (es : List Event). IsCellPage es (page_bytes w)) (sym events_are)
+      (subst (λ (bytes : List ℕ). IsCellPage (o.state.frame.events ++ rows_event o.rows ∷ cells.es) bytes) (λ i. sym o.bytes i ++ (cells.bytes ∙ are) i) p)
 
   pub whole_page : Page head cs contents w
   whole_page = record {
     written = λ others is.
         let a = all_taken others is in
-        (a.new, a.all, inr (subst (λ (es : List Event). IsCellPage es (page_bytes w cs)) (sym a.events) page_is));
-    writable = cells.writable w.size (omega arith);
-    long = cells.long ∙ ap length cells.bytes;
+        (a.new, a.all, inr (subst (λ (es : List Event). IsCellPage es (page_bytes w)) (sym a.events) page_is));
+    long = cells.long ∙ ap length (cells.bytes ∙ are);
   }

@@ -1,5 +1,5 @@
 -- Pages whose cells are each one event (sections 4.2.5.2 and 6 of native_protocol_v4.spec).
-use Rattle.std.specs.Prelude.{◌≡◌, ◌⊎◌, ⊤, ℕ, ◌+◌, ◌-◌, ◌<◌, ◌≤◌, ◌^◌, ◌++◌, nat_lt, List, [], ◌∷◌, drop, length, Option, Some, None, Result, Ok, Err}
+use Rattle.std.specs.Prelude.{◌≡◌, ◌⊎◌, ⊤, ℕ, ◌+◌, ◌-◌, ◌*◌, ◌<◌, ◌≤◌, ◌^◌, ◌++◌, nat_lt, List, [], ◌∷◌, drop, take, length, Option, Some, None, Result, Ok, Err}
 use Rattle.cqlp_kind.specs.declared.kind.Kind.{Kind}
 use Rattle.cqlp_kind.specs.CellStep as cell
 use Rattle.cqlp_grammar.specs.Events.{Event, Cell_at}
@@ -15,7 +15,9 @@ use Rattle.cqlp_c.specs.declared.encode.CqlpEncoded.{CqlpEncoded}
 use Rattle.cqlp_c.specs.declared.event.CqlpEvent.{CqlpEvent}
 use Rattle.cqlp_c.specs.declared.from_c.BadEvent.{BadEvent}
 use Rattle.cqlp_c.specs.declared.numbers.TheConstants as numbers
+use Rattle.cqlp_c.specs.declared.whole_page.CellRun.{CellRun}
 use Rattle.cqlp_c.specs.declared.whole_page.Opened.{Opened}
+use Rattle.cqlp_c.specs.declared.whole_page.Quarters.{Quarters}
 use Rattle.cqlp_c.specs.declared.whole_page.WholePage.{WholePage}
 use Rattle.cqlp_c.specs.Encoding.{PutsFrame, after_all, longest}
 use Rattle.cqlp_c.specs.FromC.{content_len, event_from_c}
@@ -55,6 +57,41 @@ AreNextCells f cells contents (c ∷ cs) n =
     (len more : ℕ) × IsNextCell f cells c contents len (drop (content_len c) contents)
     × AreNextCells f (cells + 1) (drop (content_len c) contents) cs more × (n ≡ len + more)
 
+-- What C passes are cells of a page after as many others, which have n bytes, and these contents come after theirs.
+abbrev pub AreCellsFrom : Frame → (cells : ℕ) → (contents : List ℕ) → List CqlpEvent → (n : ℕ) → (rest : List ℕ) → Type 0
+AreCellsFrom f cells contents [] n rest = (rest ≡ contents) × (n ≡ 0)
+AreCellsFrom f cells contents (c ∷ cs) n rest =
+    (len more : ℕ) × IsNextCell f cells c contents len (drop (content_len c) contents)
+    × AreCellsFrom f (cells + 1) (drop (content_len c) contents) cs more rest × (n ≡ len + more)
+
+-- These cells, of which this is known.
+pub record IsRun (f : Frame) (cells : ℕ) (contents : List ℕ) (cs : List CqlpEvent) (r : CellRun) (rest : List ℕ) : Type 0 where
+  pub events : r.events.now ≡ cs
+  pub contents_are : r.contents.now ≡ contents
+  pub are : AreCellsFrom f cells contents cs r.size rest
+  pub small : r.size < 2 ^ 60
+
+-- All cells of a page, in four runs, none longer than the last.
+pub record AreQuarters (f : Frame) (contents : List ℕ) (cs : List CqlpEvent) (q : Quarters) : Type 0 where
+  pub len : ℕ
+  pub one : List CqlpEvent
+  pub two : List CqlpEvent
+  pub three : List CqlpEvent
+  pub four : List CqlpEvent
+  pub after_one : List ℕ
+  pub after_two : List ℕ
+  pub after_three : List ℕ
+  pub all : cs ≡ one ++ (two ++ (three ++ four))
+  pub first : IsRun f 0 contents one q.first after_one
+  pub second : IsRun f len after_one two q.second after_two
+  pub third : IsRun f (2 * len) after_two three q.third after_three
+  pub last : IsRun f (3 * len) after_three four q.last []
+  pub long_one : length one ≡ len
+  pub long_two : length two ≡ len
+  pub long_three : length three ≡ len
+  pub long_four : len ≤ length four
+  pub come : length cs ≡ cells_wanted (frame_of f).message
+
 -- ---- the head
 
 -- The events before an end, or all.
@@ -77,13 +114,19 @@ OpensPage cs contents o =
 
 -- ---- the page
 
+-- how many bytes the cells of all runs have
+abbrev pub quarters_size : Quarters → ℕ
+quarters_size q = q.first.size + q.second.size + q.third.size + q.last.size
+
 -- The page that has this head and these cells.
 pub record OpensWhole (head cs : List CqlpEvent) (contents : List ℕ) (w : WholePage) : Type 0 where
   pub frame : Frame
   pub rows : ℕ
   pub state : ComposerState
-  pub opens : OpensAs head contents frame w.contents.now rows state
-  pub cells : AreNextCells frame 0 w.contents.now cs w.size
+  pub rest : List ℕ
+  pub opens : OpensAs head contents frame rest rows state
+  pub cells : AreQuarters frame rest cs w.cells
+  pub size : w.size ≡ quarters_size w.cells
   pub room : w.size ≤ state.frame.room
   pub begun : BegunPage
   pub begins : BeginsBare (frame_of frame) (said_len w.size) (Ok begun)
@@ -105,12 +148,43 @@ AreWritable [] contents n = ⊤
 AreWritable (c ∷ cs) contents n =
     IsWritable c contents n × AreWritable cs (drop (content_len c) contents) (n - length (cell_bytes c contents))
 
--- the bytes of a page with these cells
-abbrev pub page_bytes : WholePage → List CqlpEvent → List ℕ
-page_bytes w cs = w.head.items ++ cells_bytes w.contents.now cs
+-- The cell of the event of this number, if there is one, is put behind as many bytes; those after it can be.
+pub record WritesOn (cs : List CqlpEvent) (at : ℕ) (contents : List ℕ) (put : ℕ) (before : List ℕ) (put' : ℕ) (rest after : List ℕ) : Type 0 where
+  pub bytes : List ℕ
+  pub is : after ≡ take put before ++ (bytes ++ drop (length bytes) (drop put before))
+  pub long : put' ≡ put + length bytes
+  pub fits : put' ≤ length before
+  pub cells : bytes ++ cells_bytes rest (drop (at + 1) cs) ≡ cells_bytes contents (drop at cs)
+  pub left : AreWritable (drop (at + 1) cs) rest (length before - put')
 
-abbrev pub PutsPage : WholePage → List CqlpEvent → (code : ℕ) → (before after : List ℕ) → Type 0
-PutsPage w cs code before after = PutsWhere (nat_lt (length before) (length (page_bytes w cs))) (page_bytes w cs) code before after
+-- the bytes of the cells of a run
+abbrev pub run_bytes : CellRun → List ℕ
+run_bytes r = cells_bytes r.contents.now r.events.now
+
+abbrev pub quarters_bytes : Quarters → List ℕ
+quarters_bytes q = run_bytes q.first ++ (run_bytes q.second ++ (run_bytes q.third ++ run_bytes q.last))
+
+-- Its cells have as many bytes as it says, and can be put.
+abbrev pub IsReady : CellRun → Type 0
+IsReady r = (r.size ≡ length (run_bytes r)) × AreWritable r.events.now r.contents.now r.size
+
+-- The cells of all runs can be put, those of the others while the last is.
+pub record AreReady (q : Quarters) : Type 0 where
+  pub first : IsReady q.first
+  pub second : IsReady q.second
+  pub third : IsReady q.third
+  pub last : IsReady q.last
+  pub few_first : length q.first.events.now ≤ length q.last.events.now
+  pub few_second : length q.second.events.now ≤ length q.last.events.now
+  pub few_third : length q.third.events.now ≤ length q.last.events.now
+  pub small : quarters_size q < 2 ^ 62
+
+-- the bytes of a page
+abbrev pub page_bytes : WholePage → List ℕ
+page_bytes w = w.head.items ++ quarters_bytes w.cells
+
+abbrev pub PutsPage : WholePage → (code : ℕ) → (before after : List ℕ) → Type 0
+PutsPage w code before after = PutsWhere (nat_lt (length before) (length (page_bytes w))) (page_bytes w) code before after
 
 -- The frame's bytes are put, or there is no room for them; or nothing changes in the room.
 abbrev pub EncodesPage : List CqlpEvent → (contents : List ℕ) → Option ℕ → (before after : List ℕ) → CqlpEncoded → Type 0

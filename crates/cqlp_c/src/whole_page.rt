@@ -1,10 +1,11 @@
 //! Pages whose cells are each one event, written of their events at once.
 
-ghost use Rattle.std.specs.Prelude.{◌≡◌, ◌++◌, ◌≤◌, IfSome, drop, length};
+ghost use Rattle.std.specs.Prelude.{◌≡◌, ◌+◌, ◌-◌, ◌<◌, ◌≤◌, ◌^◌, ◌++◌, IfSome, drop, length};
+ghost use Rattle.cqlp_compose.specs.Bare.{AreKindsOf};
 ghost use Rattle.cqlp_compose.specs.Composing.{composed};
 ghost use Rattle.cqlp_c.specs.FromC as from_c;
 ghost use Rattle.cqlp_c.specs.WholePages as model;
-ghost use Rattle.cqlp_c.specs.WholePages.{AreNextCells, AreWritable, IsCellOfKind, IsLent, IsNextCell, IsWritable};
+ghost use Rattle.cqlp_c.specs.WholePages.{AreQuarters, AreReady, AreWritable, IsCellOfKind, IsLent, IsNextCell, IsRun, IsWritable, WritesOn};
 ghost use Rattle.cqlp_c.specs.WholePages.{EncodesPage, OpensPage, OpensWhole, PutsPage, ReadsRows};
 
 use crate::encode::{CqlpEncoded, longest, take_all};
@@ -28,13 +29,32 @@ struct Opened<'a> {
     room: usize,
 }
 
+/// Cells of a page, one after the other, which are known to be those of their events.
+#[derive(Clone, Copy)]
+struct CellRun<'a> {
+    events: &'a [CqlpEvent],
+    /// The contents of the cells, and those after them.
+    contents: &'a [u8],
+    /// How many bytes the cells have.
+    size: u64,
+}
+
+/// All cells of a page, in four runs. They are written a cell of each in turn: so the events of all four come from memory at once.
+#[derive(Clone, Copy)]
+struct Quarters<'a> {
+    first: CellRun<'a>,
+    second: CellRun<'a>,
+    third: CellRun<'a>,
+    /// As many cells as one of the others has, and up to three more.
+    last: CellRun<'a>,
+}
+
 /// A page whose cells are known to be those of their events.
 #[derive(Drop)]
 struct WholePage<'a> {
     /// All bytes before the first cell.
     head: Vec<u8>,
-    /// The contents of the cells.
-    contents: &'a [u8],
+    cells: Quarters<'a>,
     /// How many bytes the cells have.
     size: u64,
 }
@@ -113,13 +133,15 @@ fn open_page<'a>(alloc: Global, events: &[CqlpEvent], contents: &'a [u8]) -> Opt
 #[inline(always)]
 fn measure_cell<'a>(
     page: &BarePage,
+    kinds: &[Kind],
     cells: u64,
     c_event: &CqlpEvent,
     contents: &'a [u8],
 ) -> Option<(u64, &'a [u8])>
+    requires { AreKindsOf page.now.frame kinds.now }
     ensures { IfSome result (λ found. IsNextCell page.now.frame cells c_event.now contents.now found.0 found.1.now) }
 {
-    let Some(kind) = page.kind_at(cells, c_event.row, c_event.column) else {
+    let Some(kind) = page.kind_at(kinds, cells, c_event.row, c_event.column) else {
         return None;
     };
     if c_event.tag == TAG_LEAF {
@@ -171,19 +193,27 @@ fn measure_as<'a>(kind: Kind, c_event: &CqlpEvent, contents: &'a [u8]) -> Option
     }
 }
 
-/// How many bytes the cells of a page have, where each event is all of the next cell, and all cells come; and no contents are left after theirs. It is
-/// a function of its own, so that its loop has what it needs in registers.
+/// The cells of these events, before which `cells` others come, where each event is all of the next cell; and the contents after theirs. It is a function
+/// of its own, so that its loop has what it needs in registers.
 #[inline(never)]
-fn measure_cells(page: &BarePage, events: &[CqlpEvent], contents: &[u8]) -> Option<u64>
-    ensures { IfSome result (λ size. AreNextCells page.now.frame 0 contents.now events.now size) }
+fn measure_run<'a>(
+    page: &BarePage,
+    kinds: &[Kind],
+    cells: u64,
+    events: &'a [CqlpEvent],
+    contents: &'a [u8],
+) -> Option<(CellRun<'a>, &'a [u8])>
+    requires kinds { AreKindsOf page.now.frame kinds.now }
+    requires few { cells + length events.now < 2 ^ 63 }
+    ensures { IfSome result (λ found. IsRun page.now.frame cells contents.now events.now found.0 found.1.now) }
 {
     let mut rest = contents;
     let mut size = 0;
-    for (cells, c_event) in events.iter().enumerate() {
+    for (at, c_event) in events.iter().enumerate() {
         if size > u64::from(Header::LONGEST_BODY) {
             return None;
         }
-        match measure_cell(page, cells as u64, c_event, rest) {
+        match measure_cell(page, kinds, cells + at as u64, c_event, rest) {
             Some((len, behind)) => {
                 rest = behind;
                 size += len;
@@ -191,8 +221,42 @@ fn measure_cells(page: &BarePage, events: &[CqlpEvent], contents: &[u8]) -> Opti
             None => return None,
         }
     }
+    let run = CellRun {
+        events,
+        contents,
+        size,
+    };
+    Some((run, rest))
+}
+
+/// All cells of a page, where each event is all of the next cell, all cells come, and no contents are left after theirs.
+fn measure_cells<'a>(
+    alloc: Global,
+    page: &BarePage,
+    events: &'a [CqlpEvent],
+    contents: &'a [u8],
+) -> Option<Quarters<'a>>
+    requires { length events.now < 2 ^ 60 }
+    ensures { IfSome result (λ cells. AreQuarters page.now.frame contents.now events.now cells) }
+{
+    let Ok(kinds) = page.kinds(alloc) else {
+        return None;
+    };
+    let len = events.len() / 4;
+    let (one, others) = events.split_at(len);
+    let (two, others) = others.split_at(len);
+    let (three, four) = others.split_at(len);
+    let (first, rest) = measure_run(page, &kinds, 0, one, contents)?;
+    let (second, rest) = measure_run(page, &kinds, len as u64, two, rest)?;
+    let (third, rest) = measure_run(page, &kinds, 2 * len as u64, three, rest)?;
+    let (last, rest) = measure_run(page, &kinds, 3 * len as u64, four, rest)?;
     if rest.is_empty() && events.len() as u64 == page.cells_wanted() {
-        Some(size)
+        Some(Quarters {
+            first,
+            second,
+            third,
+            last,
+        })
     } else {
         None
     }
@@ -202,9 +266,10 @@ fn measure_cells(page: &BarePage, events: &[CqlpEvent], contents: &[u8]) -> Opti
 fn open_whole<'a>(
     alloc: Global,
     head: &[CqlpEvent],
-    cells: &[CqlpEvent],
+    cells: &'a [CqlpEvent],
     contents: &'a [u8],
 ) -> Option<WholePage<'a>>
+    requires { length cells.now < 2 ^ 60 }
     ensures { IfSome result (λ whole. OpensWhole head.now cells.now contents.now whole) }
 {
     let Some(opened) = open_page(alloc, head, contents) else {
@@ -215,16 +280,17 @@ fn open_whole<'a>(
         contents: rest,
         room,
     } = opened;
-    let Some(size) = measure_cells(&page, cells, rest) else {
+    let Some(cells) = measure_cells(alloc, &page, cells, rest) else {
         return None;
     };
+    let size = cells.first.size + cells.second.size + cells.third.size + cells.last.size;
     if size > room as u64 {
         return None;
     }
     match page.begin(alloc, size) {
         Ok(begun) => Some(WholePage {
             head: begun.head,
-            contents: rest,
+            cells,
             size,
         }),
         Err(_) => None,
@@ -329,33 +395,69 @@ fn put_any(c_event: &CqlpEvent, contents: &[u8], room: &mut [u8]) -> usize
     put_event(&event, room)
 }
 
-/// Puts the cells that have these events at the front of a room. It is a function of its own, as [`measure_cells`] is.
-#[inline(never)]
-fn write_cells(events: &[CqlpEvent], contents: &[u8], room: &mut [u8])
-    requires { AreWritable events.now contents.now (length room.old) }
-    ensures { room.new ≡ model.cells_bytes contents.now events.now ++ drop (length (model.cells_bytes contents.now events.now)) room.old }
+/// Puts the cell of the event of this number behind so many bytes of a room, if there is such an event; and answers how many there are then, and the
+/// contents after its own.
+#[inline(always)]
+fn write_nth<'a>(
+    events: &[CqlpEvent],
+    at: usize,
+    contents: &'a [u8],
+    put: usize,
+    room: &mut [u8],
+) -> (usize, &'a [u8])
+    requires room { put ≤ length room.old }
+    requires writable { AreWritable (drop at events.now) contents.now (length room.old - put) }
+    ensures { WritesOn events.now at contents.now put room.old result.0 result.1.now room.new }
 {
-    let mut rest = contents;
-    let mut at = 0;
-    for c_event in events {
-        let (len, behind) = write_cell(c_event, rest, &mut room[at..]);
-        rest = behind;
-        at += len;
+    match events.get(at) {
+        Some(c_event) => {
+            let (len, rest) = write_cell(c_event, contents, &mut room[put..]);
+            (put + len, rest)
+        }
+        None => (put, contents),
     }
 }
 
-/// Puts a page whose cells have these events and `size` bytes, if there is room for it.
-fn put_page(bytes: &mut [u8], page: &WholePage<'_>, events: &[CqlpEvent]) -> u32
-    requires all { AreWritable events.now page.now.contents.now (page.now.size) }
-    requires size { length (model.cells_bytes page.now.contents.now events.now) ≡ page.now.size }
-    ensures { PutsPage page.now events.now result bytes.old bytes.new }
+/// Puts all cells of a page at the front of a room, a cell of each run in turn. It is a function of its own, as [`measure_run`] is.
+#[inline(never)]
+fn write_cells(cells: &Quarters<'_>, room: &mut [u8])
+    requires ready { AreReady cells.now }
+    requires room { model.quarters_size cells.now ≤ length room.old }
+    ensures { room.new ≡ model.quarters_bytes cells.now ++ drop (length (model.quarters_bytes cells.now)) room.old }
+{
+    let Quarters {
+        first,
+        second,
+        third,
+        last,
+    } = *cells;
+    let (room0, others) = room.split_at_mut(first.size as usize);
+    let (room1, others) = others.split_at_mut(second.size as usize);
+    let (room2, room3) = others.split_at_mut(third.size as usize);
+    let (mut put0, mut rest0) = (0, first.contents);
+    let (mut put1, mut rest1) = (0, second.contents);
+    let (mut put2, mut rest2) = (0, third.contents);
+    let (mut put3, mut rest3) = (0, last.contents);
+    for at in 0..last.events.len() {
+        (put0, rest0) = write_nth(first.events, at, rest0, put0, room0);
+        (put1, rest1) = write_nth(second.events, at, rest1, put1, room1);
+        (put2, rest2) = write_nth(third.events, at, rest2, put2, room2);
+        (put3, rest3) = write_nth(last.events, at, rest3, put3, room3);
+    }
+}
+
+/// Puts a page whose cells have `size` bytes, if there is room for it.
+fn put_page(bytes: &mut [u8], page: &WholePage<'_>) -> u32
+    requires ready { AreReady page.now.cells }
+    requires size { model.quarters_size page.now.cells ≡ page.now.size }
+    ensures { PutsPage page.now result bytes.old bytes.new }
 {
     let len = page.head.len();
     if bytes.len() < len || ((bytes.len() - len) as u64) < page.size {
         return NO_ROOM;
     }
     let at = put(bytes, 0, &page.head);
-    write_cells(events, page.contents, &mut bytes[at..]);
+    write_cells(&page.cells, &mut bytes[at..]);
     DONE
 }
 
@@ -385,5 +487,5 @@ pub(crate) fn encode_page(
         length,
         event: events.len(),
     };
-    Some(put_page(bytes, &page, cells))
+    Some(put_page(bytes, &page))
 }
