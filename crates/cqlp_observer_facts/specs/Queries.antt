@@ -41,9 +41,13 @@ query_width (ValueName more form) = 2
 query_width (Value more form) = 4
 query_width PageSize = 4
 
+-- what follows the flags
+abbrev pub flags_next : (flags : ℕ) → Next
+flags_next flags = says (fact.HasPagingState (has_paging_state flags)) (flags_following flags)
+
 abbrev pub query_following : QueryField → List ℕ → Next
 query_following Consistency b = says (fact.Consistency (short b)) (due.Query Flags)
-query_following Flags b = says (fact.HasPagingState (has_paging_state (byte b))) (flags_following (byte b))
+query_following Flags b = flags_next (byte b)
 query_following (ValueCount form) b = at (values_due (short b) form)
 query_following (ValueName more form) b = past (short b) (due.Query (Value more form))
 query_following (Value more form) b = past_value (int b) (values_due more form)

@@ -67,7 +67,7 @@ impl Announced {
 }
 
 /// The first field of a body with this header.
-#[inline(always)]
+#[inline(never)]
 pub(crate) fn first_due(header: &Header) -> Due
     ensures { result ≡ opening header.now }
 {
@@ -76,10 +76,12 @@ pub(crate) fn first_due(header: &Header) -> Due
         Due::Unread
     } else if header.response && has(flags, 0x02) {
         Due::Announced(Announced::TraceId)
-    } else if header.response {
-        after_trace_id(header.flags, header.opcode)
+    } else if header.response && has(flags, 0x08) {
+        Due::Announced(Announced::WarningCount)
+    } else if has(flags, 0x04) {
+        Due::Announced(Announced::PayloadCount)
     } else {
-        after_warnings(header.flags, header.opcode)
+        Due::opening_of(header.opcode)
     }
 }
 

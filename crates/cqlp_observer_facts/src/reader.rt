@@ -7,12 +7,11 @@ use crate::announced::first_due;
 use crate::batch::{BatchField, entry_values_due, id_following, kind_following};
 use crate::columns::plain_column_of;
 use crate::due::{Due, Next, past_text, result_kind};
-use crate::facts::Facts;
+use crate::facts::{Fact, Facts};
 use crate::field_front::FieldFront;
-use crate::numbers::{byte, int, short};
+use crate::numbers::{byte, has, int, is_negative, short};
 use crate::query::{
     QueryField, ValueForm, consistency_due, consistency_following, page_size_following, past_value,
-    query_flags_following, values_due,
 };
 use crate::rows::{RowsField, columns_following, page_flags_following, row_count};
 use cqlp_note::{Header, Opcode};
@@ -38,6 +37,9 @@ pub struct FactsReader {
 impl FactsReader {
     ghost use Rattle.cqlp_observer_facts.specs.Bodies.{width};
     ghost use Rattle.cqlp_observer_facts.specs.Columns.{PassesColumn, next_column};
+    ghost use Rattle.cqlp_observer_facts.specs.Contents.{past_value};
+    ghost use Rattle.cqlp_observer_facts.specs.Due.{past};
+    ghost use Rattle.cqlp_observer_facts.specs.Queries.{flags_next, values_due};
     ghost use Rattle.cqlp_observer_facts.specs.Reading.{before, begun, gone_on, gone_to, idle, is_before, passed, read, taken, with_due};
 
     /// Nothing is read.
@@ -243,21 +245,85 @@ impl FactsReader {
         match self.due {
             Due::StatementId => self.go_to(Next::past(short(bytes).into(), consistency_due())),
             Due::Query(QueryField::Consistency) => self.go_to(consistency_following(bytes)),
-            Due::Query(QueryField::Flags) => self.go_to(query_flags_following(bytes)),
+            Due::Query(QueryField::Flags) => self.go_past_flags(byte(bytes).into()),
             Due::Query(QueryField::ValueCount(ValueForm { named, paged })) => {
-                self.go_to(Next::at(values_due(short(bytes), ValueForm { named, paged })))
+                self.go_to_values(0, short(bytes), ValueForm { named, paged })
             }
             Due::Query(
                 QueryField::Value {
                     more,
                     form: ValueForm { named, paged },
                 },
-            ) => {
-                self.go_to(past_value(int(bytes), values_due(more, ValueForm { named, paged })))
-            }
+            ) => self.go_past_value(int(bytes), more, ValueForm { named, paged }),
             Due::Query(QueryField::PageSize) => self.go_to(page_size_following(bytes)),
             _ => self.pass_other(bytes),
         }
+    }
+
+    /// Goes on after the flags of a QUERY or an EXECUTE. What is due is made where it stays, here and below.
+    #[inline(always)]
+    fn go_past_flags(&mut self, flags: u32)
+        ensures { self.new ≡ gone_to (flags_next flags) self.old }
+    {
+        self.go_past(0);
+        self.facts.add(Fact::HasPagingState(has(flags, 0x08)));
+        let paged = has(flags, 0x04);
+        if has(flags, 0x01) {
+            let named = has(flags, 0x40);
+            self.due = Due::Query(QueryField::ValueCount(ValueForm { named, paged }));
+        } else if paged {
+            self.due = Due::Query(QueryField::PageSize);
+        } else {
+            self.due = Due::Over;
+        }
+    }
+
+    /// Goes on after a value of this length, before so many more.
+    #[inline(always)]
+    fn go_past_value(&mut self, length: u32, more: u16, form: ValueForm)
+        ensures { self.new ≡ gone_to (past_value length (values_due more form)) self.old }
+    {
+        if length == u32::MAX || length == u32::MAX - 1 {
+            self.go_to_values(0, more, form);
+        } else if is_negative(length) {
+            self.go_to(Next::at(Due::Over));
+        } else {
+            self.go_to_values(length, more, form);
+        }
+    }
+
+    /// Goes on with so many values, after so many bytes.
+    #[inline(always)]
+    fn go_to_values(&mut self, passing: u32, count: u16, form: ValueForm)
+        ensures { self.new ≡ gone_to (past passing (values_due count form)) self.old }
+    {
+        self.go_past(passing);
+        if count == 0 {
+            if form.paged {
+                self.due = Due::Query(QueryField::PageSize);
+            } else {
+                self.due = Due::Over;
+            }
+        } else if form.named {
+            self.due = Due::Query(QueryField::ValueName {
+                more: count - 1,
+                form,
+            });
+        } else {
+            self.due = Due::Query(QueryField::Value {
+                more: count - 1,
+                form,
+            });
+        }
+    }
+
+    /// Goes on with what is due, after so many bytes.
+    #[inline(always)]
+    fn go_past(&mut self, passing: u32)
+        ensures { self.new ≡ gone_to (past passing self.old.due) self.old }
+    {
+        self.passing = passing;
+        self.front.clear();
     }
 
     /// Goes on after a field, out of line.
