@@ -50,9 +50,9 @@ placed_settled m settled_m hr room w settled_w place same placed =
     let waiting : settled_w.waiting ≡ w.waiting = ap (λ (x : Fits). x.after.waiting) same ∙ keeps.1 in
     subst (λ (i : ℤ). IsPlaced i settled_w.waiting place) (sym id) (subst (λ (v : Waiting Kept). IsPlaced (id_of m) v place) (sym waiting) placed)
 
-pub paired_settled : {E : Type 0} (r : Result (Option (Paired Kept)) E) (after : Waiting Kept) (hr known : Bool) (m settled_m : Message Kept) (room : WatchRoom) (w settled_w : Watched) → hr ≡ known → fitting settled_m settled_w ≡ settled m hr room w → IfOk r (λ reported. paired reported after ≡ taken settled_m hr settled_w.waiting) → IfOk r (λ reported. report_then reported (watched settled_w.requests settled_w.responses after settled_w.text settled_w.missed) ≡ taken_by known (settled m known room w))
-paired_settled (Ok reported) after hr known m settled_m room w settled_w same settles takes =
+pub paired_settled : {U E : Type 0} (r : Result U E) (reported : Option (Paired Kept)) (after : Waiting Kept) (hr known : Bool) (m settled_m : Message Kept) (room : WatchRoom) (w settled_w : Watched) → hr ≡ known → fitting settled_m settled_w ≡ settled m hr room w → IfOk r (λ _. paired reported after ≡ taken settled_m hr settled_w.waiting) → IfOk r (λ _. report_then reported (watched settled_w.requests settled_w.responses after settled_w.text settled_w.missed) ≡ taken_by known (settled m known room w))
+paired_settled (Ok u) reported after hr known m settled_m room w settled_w same settles takes =
     ap (λ (p : Pairs Kept). paired_by p settled_w) takes
     ∙ ap (λ (x : Fits). taken_by hr x) settles
     ∙ ap (λ (b : Bool). taken_by b (settled m b room w)) same
-paired_settled (Err e) after hr known m settled_m room w settled_w same settles takes = tt
+paired_settled (Err e) reported after hr known m settled_m room w settled_w same settles takes = tt

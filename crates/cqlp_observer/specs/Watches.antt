@@ -100,6 +100,10 @@ fitting m w = record { message = m; after = w }
 abbrev pub bare : Message Kept → Message Kept
 bare m = record { frame = m.frame; kept = bare_kept }
 
+abbrev pub bare_if : (is_bare : Bool) → Message Kept → Message Kept
+bare_if true m = bare m
+bare_if false m = m
+
 -- with its text, if there is room for it beside so much else, or without it
 abbrev pub fitted : Message Kept → (beside : ℕ) → WatchRoom → Watched → Fits
 fitted m beside room w =

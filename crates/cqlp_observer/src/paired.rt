@@ -35,7 +35,7 @@ pub enum Paired<T> {
 }
 
 impl<T> Paired<T> {
-    ghost use Rattle.cqlp_observer.specs.Pairings.{alone, exchange};
+    ghost use Rattle.cqlp_observer.specs.Pairings.{alone};
 
     /// Of a message that is in no exchange.
     #[inline(always)]
@@ -46,24 +46,6 @@ impl<T> Paired<T> {
             Paired::Unanswered { request: message }
         } else {
             Paired::Unasked { response: message }
-        }
-    }
-
-    /// Of a request and its response, whichever came first.
-    #[inline(always)]
-    pub(crate) fn exchange(first: Message<T>, second: Message<T>) -> Self
-        ensures { result ≡ exchange first second }
-    {
-        if first.is_request() {
-            Paired::Exchange {
-                request: first,
-                response: second,
-            }
-        } else {
-            Paired::Exchange {
-                request: second,
-                response: first,
-            }
         }
     }
 }

@@ -1,11 +1,11 @@
 //! Which requests wait for their responses, and which responses for their requests.
 
-ghost use Rattle.std.specs.Prelude.{◌≡◌, ◌==◌, IfErr, IfOk, length};
+ghost use Rattle.std.specs.Prelude.{◌≡◌, ◌==◌, IfErr, IfOk, Some, length};
 ghost use Rattle.std.specs.Option.{option_copied};
 ghost use Rattle.std.specs.Map.{keys_of};
 ghost use Rattle.std.specs.List.Sorted.{IsStrictlySortedBy};
 ghost use Rattle.std.specs.Ordering.{int_cmp};
-ghost use Rattle.cqlp_observer.specs.Pairings.{IsGap, IsPlace, by_id, fate_after, fate_alone, fate_of, is_overtaken};
+ghost use Rattle.cqlp_observer.specs.Pairings.{IsGap, IsPlace, alone, by_id, exchange, fate_after, fate_alone, fate_of, is_overtaken};
 
 use crate::frame_record::MessageRecord;
 use crate::message::Message;
@@ -54,7 +54,7 @@ impl<T, A: Allocator> Model for Pairing<T, A> {
 }
 
 impl<T: Drop, A: Allocator + Clone> Pairing<T, A> {
-    ghost use Rattle.std.specs.Prelude.{Bool, Ok, ℤ};
+    ghost use Rattle.std.specs.Prelude.{Bool, None, Ok, ℤ};
     ghost use Rattle.cqlp_observer.specs.Messages.{id_of};
     ghost use Rattle.cqlp_observer.specs.Pairings.{IsPlaced, ended, none_wait, overtakes, paired, taken, taken_after, under, without};
 
@@ -131,30 +131,42 @@ impl<T: Drop, A: Allocator + Clone> Pairing<T, A> {
         ensures { IfOk result (λ reported. paired reported self.new ≡ taken message has_room self.old) }
     {
         let place = self.place(message.stream());
-        self.take_at(place, message, has_room)
+        let mut reported = None;
+        self.take_at(place, message, has_room, &mut reported)?;
+        Ok(reported)
     }
 
-    /// Takes the next frame as `take` does, whose place is known.
+    /// Takes the next frame as `take` does, whose place is known. What is reported is written where nothing is yet: it is large, and is moved as
+    /// seldom as can be.
     #[inline(always)]
     pub(crate) fn take_at(
         &mut self,
         place: Result<usize, usize>,
         message: Message<T>,
         has_room: bool,
-    ) -> Result<Option<Paired<T>>, AllocError>
-        requires { IsPlaced (id_of message) self.old place }
-        ensures { IfOk result (λ reported. paired reported self.new ≡ taken message has_room self.old) }
+        reported: &mut Option<Paired<T>>,
+    ) -> Result<(), AllocError>
+        requires placed { IsPlaced (id_of message) self.old place }
+        requires none { reported.old ≡ None }
+        ensures { IfOk result (λ _. paired reported.new self.new ≡ taken message has_room self.old) }
     {
         if message.is_event() {
-            return Ok(Some(Paired::Event { event: message }));
+            *reported = Some(Paired::Event { event: message });
+            return Ok(());
         }
         match place {
-            Ok(at) => Ok(self.meet(at, message)),
+            Ok(at) => {
+                self.meet(at, message, reported);
+                Ok(())
+            }
             Err(at) if has_room => {
                 self.waiting.insert(at, MessageRecord::new(message))?;
-                Ok(None)
+                Ok(())
             }
-            Err(_) => Ok(Some(Paired::alone(message))),
+            Err(_) => {
+                report_alone(message, reported);
+                Ok(())
+            }
         }
     }
 
@@ -170,18 +182,20 @@ impl<T: Drop, A: Allocator + Clone> Pairing<T, A> {
 
     /// A message comes after the one at a place, which waited under its stream id.
     #[inline(always)]
-    fn meet(&mut self, at: usize, second: Message<T>) -> Option<Paired<T>>
+    fn meet(&mut self, at: usize, second: Message<T>, reported: &mut Option<Paired<T>>)
         requires { IsPlaced (id_of second) self.old (Ok at) }
-        ensures { (has_room : Bool) → paired result self.new
+        ensures { (has_room : Bool) → paired reported.new self.new
             ≡ taken_after (under (id_of second) self.old) second has_room (without (id_of second) self.old) }
     {
         if self.waiting[at].meets(&second) {
-            let first = self.waiting.remove(at)?;
+            let Some(first) = self.waiting.remove(at) else {
+                return;
+            };
             self.shrink();
-            Some(Paired::exchange(first.into_message(), second))
+            report_exchange(first.into_message(), second, reported);
         } else {
             let first = std::mem::replace(&mut self.waiting[at], MessageRecord::new(second));
-            Some(Paired::alone(first.into_message()))
+            report_alone(first.into_message(), reported);
         }
     }
 
@@ -193,6 +207,32 @@ impl<T: Drop, A: Allocator + Clone> Pairing<T, A> {
         if len <= self.waiting.capacity() / 4 {
             self.waiting.shrink_to(2 * len);
         }
+    }
+}
+
+/// Reports a message that is in no exchange.
+#[inline(always)]
+fn report_alone<T: Drop>(message: Message<T>, reported: &mut Option<Paired<T>>)
+    ensures { reported.new ≡ Some (alone message) }
+{
+    *reported = Some(Paired::alone(message));
+}
+
+/// Reports a request and its response, whichever came first.
+#[inline(always)]
+fn report_exchange<T: Drop>(first: Message<T>, second: Message<T>, reported: &mut Option<Paired<T>>)
+    ensures { reported.new ≡ Some (exchange first second) }
+{
+    if first.is_request() {
+        *reported = Some(Paired::Exchange {
+            request: first,
+            response: second,
+        });
+    } else {
+        *reported = Some(Paired::Exchange {
+            request: second,
+            response: first,
+        });
     }
 }
 

@@ -1,6 +1,7 @@
 //! One side of a connection.
 
 ghost use Rattle.std.specs.Prelude.{◌≡◌, ◌≤◌, ◌+◌, IfOk, IfSome, None, Some, false, true, drop, length};
+ghost use Rattle.cqlp_observer.specs.Announcements.{announced_of, announced_on};
 ghost use Rattle.cqlp_observer.specs.Directions.{IsWholeHead, passed_whole};
 
 use crate::heads::{Heads, Heard};
@@ -56,7 +57,7 @@ impl<A: Allocator> Model for Present<A> {
 }
 
 impl<A: Allocator + Clone> Present<A> {
-    ghost use Rattle.cqlp_observer.specs.Announcements.{announced_of, announced_on, none_announced};
+    ghost use Rattle.cqlp_observer.specs.Announcements.{none_announced};
     ghost use Rattle.cqlp_observer.specs.Passing.{begun_with, broken, kept_in, passing, read_on};
 
     /// A message with this header, of whose body nothing came.
@@ -104,10 +105,7 @@ impl<A: Allocator + Clone> Present<A> {
     fn announce(&mut self, bytes: &[u8]) -> Result<(), AllocError>
         ensures { IfOk result (λ _. self.new ≡ passing self.old.front (announced_on bytes.now self.old.announced) self.old.reader self.old.is_sound) }
     {
-        match &mut self.announced {
-            Some(announced) => announced.add(bytes),
-            None => Ok(()),
-        }
+        announce(&mut self.announced, bytes)
     }
 
     /// Some of its bytes are missing.
@@ -129,6 +127,17 @@ impl<A: Allocator + Clone> Present<A> {
             is_sound: _,
         } = self;
         Kept::new(alloc, front, announced, reader.facts())
+    }
+}
+
+/// The next bytes that lie before a message proper, where these are kept.
+#[inline(always)]
+fn announce<A: Allocator>(announced: &mut Announced<A>, bytes: &[u8]) -> Result<(), AllocError>
+    ensures { IfOk result (λ _. announced_of announced.new ≡ announced_on bytes.now (announced_of announced.old)) }
+{
+    match announced {
+        Some(announced) => announced.add(bytes),
+        None => Ok(()),
     }
 }
 
@@ -321,9 +330,13 @@ impl<A: Allocator + Clone> Side<A> {
     fn kept_of_whole(&self, header: Header, body: &[u8]) -> Result<Kept<A>, AllocError>
         ensures { IfOk result (λ k. k ≡ kept_in (read_on body.now (begun_with header))) }
     {
-        let mut present = Present::new(self.alloc.clone()?, &header)?;
-        present.keep(body)?;
-        present.into_kept(self.alloc.clone()?)
+        let mut reader = FactsReader::new(&header);
+        let before = reader.read(body);
+        let mut announced = Present::none_announced(&self.alloc, &header)?;
+        announce(&mut announced, &body[..before])?;
+        let mut front = Front::new(self.alloc.clone()?);
+        front.add(&body[before..])?;
+        Kept::new(self.alloc.clone()?, front, announced, reader.facts())
     }
 
     /// Keeps bytes of a body.

@@ -2,7 +2,7 @@
 
 ghost use Rattle.std.specs.Prelude.{◌≡◌, ◌≤◌, ◌+◌, IfOk, IfSome, length};
 ghost use Rattle.std.specs.Option.{option_copied};
-ghost use Rattle.cqlp_observer.specs.Watches.{recounted, text_in, reported_text};
+ghost use Rattle.cqlp_observer.specs.Watches.{bare_if, recounted, text_in, reported_text};
 
 use crate::frame_record::MessageRecord;
 use crate::kept::Kept;
@@ -58,7 +58,7 @@ impl<A: Allocator> Model for Watch<A> {
 }
 
 impl<A: Allocator + Clone> Watch<A> {
-    ghost use Rattle.std.specs.Prelude.{Some};
+    ghost use Rattle.std.specs.Prelude.{None, Some};
     ghost use Rattle.cqlp_observer.specs.Directions.{IsWholeHead};
     ghost use Rattle.cqlp_observer.specs.Messages.{id_of};
     ghost use Rattle.cqlp_observer.specs.Speakers.{after_frame};
@@ -217,12 +217,16 @@ impl<A: Allocator + Clone> Watch<A> {
         ensures within { IfOk result (λ step. step.used ≤ length piece.now) }
     {
         match self.whole_head(responses, piece) {
-            Some(header) => Ok(WatchStep {
-                used: 9 + header.length as usize,
-                is_done: false,
-                opening,
-                reported: self.take_frame(responses, header, piece, time, room)?,
-            }),
+            Some(header) => {
+                let mut reported = None;
+                self.take_frame(responses, header, piece, time, room, &mut reported)?;
+                Ok(WatchStep {
+                    used: 9 + header.length as usize,
+                    is_done: false,
+                    opening,
+                    reported,
+                })
+            }
             None => self.hear_part(responses, piece, time, begins, room, opening),
         }
     }
@@ -263,7 +267,8 @@ impl<A: Allocator + Clone> Watch<A> {
         }
     }
 
-    /// The frame with this header lies whole in the next bytes of a direction, which came at this time: pairs its message.
+    /// The frame with this header lies whole in the next bytes of a direction, which came at this time: pairs its message. What is reported is
+    /// written where nothing is yet: it is large, and is moved as seldom as can be.
     #[inline(never)]
     fn take_frame(
         &mut self,
@@ -272,9 +277,11 @@ impl<A: Allocator + Clone> Watch<A> {
         piece: &[u8],
         time: Option<u64>,
         room: WatchRoom,
-    ) -> Result<Option<Paired<Kept<A>>>, AllocError>
-        requires { 9 + header.length ≤ length piece.now }
-        ensures { IfOk result (λ reported. report_then reported self.new
+        reported: &mut Option<Paired<Kept<A>>>,
+    ) -> Result<(), AllocError>
+        requires whole { 9 + header.length ≤ length piece.now }
+        requires none { reported.old ≡ None }
+        ensures { IfOk result (λ _. report_then reported.new self.new
             ≡ ended_by responses (after_frame header time piece.now (side_of responses self.old)) room self.old) }
     {
         let was_keeping = self.is_keeping(responses);
@@ -284,7 +291,7 @@ impl<A: Allocator + Clone> Watch<A> {
             self.requests.take_frame(header, piece, time)?
         };
         self.recount(responses, room, was_keeping);
-        self.pair_one(message, room)
+        self.pair_one(message, room, reported)
     }
 
     /// Whether these are no bytes, and the direction is between two frames: then nothing more is reported.
@@ -374,76 +381,96 @@ impl<A: Allocator + Clone> Watch<A> {
         ensures { IfOk result (λ reported. report_then reported self.new ≡ paired_if message room self.old) }
     {
         match message {
-            Some(message) => self.pair_one(message, room),
+            Some(message) => {
+                let mut reported = None;
+                self.pair_one(message, room, &mut reported)?;
+                Ok(reported)
+            }
             None => Ok(None),
         }
     }
 
-    /// Pairs a message that has ended.
+    /// Pairs a message that has ended. What is reported is written where nothing is yet.
     #[inline(always)]
     fn pair_one(
         &mut self,
         message: Message<Kept<A>>,
         room: WatchRoom,
-    ) -> Result<Option<Paired<Kept<A>>>, AllocError>
-        ensures { IfOk result (λ reported. report_then reported self.new ≡ paired_if (Some message) room self.old) }
+        reported: &mut Option<Paired<Kept<A>>>,
+    ) -> Result<(), AllocError>
+        requires { reported.old ≡ None }
+        ensures { IfOk result (λ _. report_then reported.new self.new ≡ paired_if (Some message) room self.old) }
     {
         let has_room = self.pairing.len() < room.messages;
         let place = self.pairing.place(message.stream());
-        let message = self.settle(place, message, has_room, room)?;
-        self.pairing.take_at(place, message, has_room)
+        let is_bare = self.settle(place, &message, has_room, room)?;
+        self.pairing
+            .take_at(place, bare_if(is_bare, message), has_room, reported)
     }
 
-    /// The message as it is paired, whose place is known, where there is room for one more that waits, or none: what becomes of it is counted.
+    /// Whether a message is paired without its text, whose place is known, where there is room for one more that waits, or none: what becomes of it is
+    /// counted.
     #[inline(always)]
     fn settle(
         &mut self,
         place: Result<usize, usize>,
-        message: Message<Kept<A>>,
+        message: &Message<Kept<A>>,
         has_room: bool,
         room: WatchRoom,
-    ) -> Result<Message<Kept<A>>, AllocError>
-        requires { IsPlaced (id_of message) self.old.waiting place }
-        ensures { IfOk result (λ m. fitting m self.new ≡ settled message has_room room self.old) }
+    ) -> Result<bool, AllocError>
+        requires { IsPlaced (id_of message.now) self.old.waiting place }
+        ensures { IfOk result (λ is_bare. fitting (bare_if is_bare message.now) self.new ≡ settled message.now has_room room self.old) }
     {
         let first = self.pairing.at(place);
         let beside = self.text.saturating_sub(text_in(first));
-        match fate_of(first, &message, has_room) {
-            Fate::IsReported => Ok(message),
+        match fate_of(first, message, has_room) {
+            Fate::IsReported => Ok(false),
             Fate::Meets => {
                 self.text = beside;
-                Ok(message)
+                Ok(false)
             }
             Fate::Waits => self.fit(message, beside, room),
             Fate::IsOvertaken => {
                 self.missed.count_overtaken()?;
-                Ok(message)
+                Ok(false)
             }
         }
     }
 
-    /// The message as it waits, with its first bytes or without them, where so many of others wait beside it.
-    #[inline]
+    /// Whether a message waits without its text, where so many of others wait beside it.
+    #[inline(always)]
     fn fit(
         &mut self,
-        message: Message<Kept<A>>,
+        message: &Message<Kept<A>>,
         beside: usize,
         room: WatchRoom,
-    ) -> Result<Message<Kept<A>>, AllocError>
-        ensures { IfOk result (λ m. fitting m self.new ≡ fitted message beside room self.old) }
+    ) -> Result<bool, AllocError>
+        ensures { IfOk result (λ is_bare. fitting (bare_if is_bare message.now) self.new ≡ fitted message.now beside room self.old) }
     {
         let count = message.kept.cost();
         if count <= room.text.saturating_sub(beside) {
             self.text = beside + count;
-            Ok(message)
+            Ok(false)
         } else {
             self.text = beside;
             self.missed.count_text()?;
-            Ok(Message {
-                frame: message.frame,
-                kept: Kept::bare(),
-            })
+            Ok(true)
         }
+    }
+}
+
+/// The message, without its text if it is to be bare.
+#[inline(always)]
+fn bare_if<A: Allocator>(is_bare: bool, message: Message<Kept<A>>) -> Message<Kept<A>>
+    ensures { result ≡ bare_if is_bare message }
+{
+    if is_bare {
+        Message {
+            frame: message.frame,
+            kept: Kept::bare(),
+        }
+    } else {
+        message
     }
 }
 

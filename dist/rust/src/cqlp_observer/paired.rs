@@ -43,20 +43,4 @@ impl<T> Paired<T> {
             Paired::Unasked { response: message }
         }
     }
-
-    /// Of a request and its response, whichever came first.
-    #[inline(always)]
-    pub(crate) fn exchange(first: SeenMessage<T>, second: SeenMessage<T>) -> Self {
-        if first.is_request() {
-            Paired::Exchange {
-                request: first,
-                response: second,
-            }
-        } else {
-            Paired::Exchange {
-                request: second,
-                response: first,
-            }
-        }
-    }
 }

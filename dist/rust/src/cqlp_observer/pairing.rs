@@ -94,27 +94,38 @@ impl<T> Pairing<T> {
         has_room: bool,
     ) -> Result<Option<Paired<T>>, AllocError> {
         let place = self.place(message.stream());
-        self.take_at(place, message, has_room)
+        let mut reported = None;
+        self.take_at(place, message, has_room, &mut reported)?;
+        Ok(reported)
     }
 
-    /// Takes the next frame as `take` does, whose place is known.
+    /// Takes the next frame as `take` does, whose place is known. What is reported is written where nothing is yet: it is large, and is moved as
+    /// seldom as can be.
     #[inline(always)]
     pub(crate) fn take_at(
         &mut self,
         place: Result<usize, usize>,
         message: SeenMessage<T>,
         has_room: bool,
-    ) -> Result<Option<Paired<T>>, AllocError> {
+        reported: &mut Option<Paired<T>>,
+    ) -> Result<(), AllocError> {
         if message.is_event() {
-            return Ok(Some(Paired::Event { event: message }));
+            *reported = Some(Paired::Event { event: message });
+            return Ok(());
         }
         match place {
-            Ok(at) => Ok(self.meet(at, message)),
+            Ok(at) => {
+                self.meet(at, message, reported);
+                Ok(())
+            }
             Err(at) if has_room => {
                 self.waiting.insert(at, MessageRecord::new(message))?;
-                Ok(None)
+                Ok(())
             }
-            Err(_) => Ok(Some(Paired::alone(message))),
+            Err(_) => {
+                report_alone(message, reported);
+                Ok(())
+            }
         }
     }
 
@@ -128,14 +139,16 @@ impl<T> Pairing<T> {
 
     /// A message comes after the one at a place, which waited under its stream id.
     #[inline(always)]
-    fn meet(&mut self, at: usize, second: SeenMessage<T>) -> Option<Paired<T>> {
+    fn meet(&mut self, at: usize, second: SeenMessage<T>, reported: &mut Option<Paired<T>>) {
         if self.waiting[at].meets(&second) {
-            let first = self.waiting.remove(at)?;
+            let Some(first) = self.waiting.remove(at) else {
+                return;
+            };
             self.shrink();
-            Some(Paired::exchange(first.into_message(), second))
+            report_exchange(first.into_message(), second, reported);
         } else {
             let first = core::mem::replace(&mut self.waiting[at], MessageRecord::new(second));
-            Some(Paired::alone(first.into_message()))
+            report_alone(first.into_message(), reported);
         }
     }
 
@@ -145,6 +158,28 @@ impl<T> Pairing<T> {
         if len <= self.waiting.capacity() / 4 {
             self.waiting.shrink_to(2 * len);
         }
+    }
+}
+
+/// Reports a message that is in no exchange.
+#[inline(always)]
+fn report_alone<T>(message: SeenMessage<T>, reported: &mut Option<Paired<T>>) {
+    *reported = Some(Paired::alone(message));
+}
+
+/// Reports a request and its response, whichever came first.
+#[inline(always)]
+fn report_exchange<T>(first: SeenMessage<T>, second: SeenMessage<T>, reported: &mut Option<Paired<T>>) {
+    if first.is_request() {
+        *reported = Some(Paired::Exchange {
+            request: first,
+            response: second,
+        });
+    } else {
+        *reported = Some(Paired::Exchange {
+            request: second,
+            response: first,
+        });
     }
 }
 

@@ -78,10 +78,7 @@ impl Present {
     /// Its next bytes that lie before the message proper.
     #[inline(always)]
     fn announce(&mut self, bytes: &[u8]) -> Result<(), AllocError> {
-        match &mut self.announced {
-            Some(announced) => announced.add(bytes),
-            None => Ok(()),
-        }
+        announce(&mut self.announced, bytes)
     }
 
     /// Some of its bytes are missing.
@@ -100,6 +97,15 @@ impl Present {
             is_sound: _,
         } = self;
         Kept::new(front, announced, reader.facts())
+    }
+}
+
+/// The next bytes that lie before a message proper, where these are kept.
+#[inline(always)]
+fn announce(announced: &mut Announced, bytes: &[u8]) -> Result<(), AllocError> {
+    match announced {
+        Some(announced) => announced.add(bytes),
+        None => Ok(()),
     }
 }
 
@@ -251,9 +257,13 @@ impl Side {
     /// What is kept of a message with this header and body.
     #[inline(never)]
     fn kept_of_whole(&self, header: Header, body: &[u8]) -> Result<Kept, AllocError> {
-        let mut present = Present::new(&header)?;
-        present.keep(body)?;
-        present.into_kept()
+        let mut reader = FactsReader::new(&header);
+        let before = reader.read(body);
+        let mut announced = Present::none_announced(&header)?;
+        announce(&mut announced, &body[..before])?;
+        let mut front = Front::new();
+        front.add(&body[before..])?;
+        Kept::new(front, announced, reader.facts())
     }
 
     /// Keeps bytes of a body.

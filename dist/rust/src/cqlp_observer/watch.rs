@@ -181,12 +181,16 @@ impl Watch {
         opening: Opening,
     ) -> Result<WatchStep, AllocError> {
         match self.whole_head(responses, piece) {
-            Some(header) => Ok(WatchStep {
-                used: 9 + header.length as usize,
-                is_done: false,
-                opening,
-                reported: self.take_frame(responses, header, piece, time, room)?,
-            }),
+            Some(header) => {
+                let mut reported = None;
+                self.take_frame(responses, header, piece, time, room, &mut reported)?;
+                Ok(WatchStep {
+                    used: 9 + header.length as usize,
+                    is_done: false,
+                    opening,
+                    reported,
+                })
+            }
             None => self.hear_part(responses, piece, time, begins, room, opening),
         }
     }
@@ -221,7 +225,8 @@ impl Watch {
         }
     }
 
-    /// The frame with this header lies whole in the next bytes of a direction, which came at this time: pairs its message.
+    /// The frame with this header lies whole in the next bytes of a direction, which came at this time: pairs its message. What is reported is
+    /// written where nothing is yet: it is large, and is moved as seldom as can be.
     #[inline(never)]
     fn take_frame(
         &mut self,
@@ -230,7 +235,8 @@ impl Watch {
         piece: &[u8],
         time: Option<u64>,
         room: WatchRoom,
-    ) -> Result<Option<Paired<Kept>>, AllocError> {
+        reported: &mut Option<Paired<Kept>>,
+    ) -> Result<(), AllocError> {
         let was_keeping = self.is_keeping(responses);
         let message = if responses {
             self.responses.take_frame(header, piece, time)?
@@ -238,7 +244,7 @@ impl Watch {
             self.requests.take_frame(header, piece, time)?
         };
         self.recount(responses, room, was_keeping);
-        self.pair_one(message, room)
+        self.pair_one(message, room, reported)
     }
 
     /// Whether these are no bytes, and the direction is between two frames: then nothing more is reported.
@@ -315,69 +321,86 @@ impl Watch {
         room: WatchRoom,
     ) -> Result<Option<Paired<Kept>>, AllocError> {
         match message {
-            Some(message) => self.pair_one(message, room),
+            Some(message) => {
+                let mut reported = None;
+                self.pair_one(message, room, &mut reported)?;
+                Ok(reported)
+            }
             None => Ok(None),
         }
     }
 
-    /// Pairs a message that has ended.
+    /// Pairs a message that has ended. What is reported is written where nothing is yet.
     #[inline(always)]
     fn pair_one(
         &mut self,
         message: SeenMessage<Kept>,
         room: WatchRoom,
-    ) -> Result<Option<Paired<Kept>>, AllocError> {
+        reported: &mut Option<Paired<Kept>>,
+    ) -> Result<(), AllocError> {
         let has_room = self.pairing.len() < room.messages;
         let place = self.pairing.place(message.stream());
-        let message = self.settle(place, message, has_room, room)?;
-        self.pairing.take_at(place, message, has_room)
+        let is_bare = self.settle(place, &message, has_room, room)?;
+        self.pairing
+            .take_at(place, bare_if(is_bare, message), has_room, reported)
     }
 
-    /// The message as it is paired, whose place is known, where there is room for one more that waits, or none: what becomes of it is counted.
+    /// Whether a message is paired without its text, whose place is known, where there is room for one more that waits, or none: what becomes of it is
+    /// counted.
     #[inline(always)]
     fn settle(
         &mut self,
         place: Result<usize, usize>,
-        message: SeenMessage<Kept>,
+        message: &SeenMessage<Kept>,
         has_room: bool,
         room: WatchRoom,
-    ) -> Result<SeenMessage<Kept>, AllocError> {
+    ) -> Result<bool, AllocError> {
         let first = self.pairing.at(place);
         let beside = self.text.saturating_sub(text_in(first));
-        match fate_of(first, &message, has_room) {
-            Fate::IsReported => Ok(message),
+        match fate_of(first, message, has_room) {
+            Fate::IsReported => Ok(false),
             Fate::Meets => {
                 self.text = beside;
-                Ok(message)
+                Ok(false)
             }
             Fate::Waits => self.fit(message, beside, room),
             Fate::IsOvertaken => {
                 self.missed.count_overtaken()?;
-                Ok(message)
+                Ok(false)
             }
         }
     }
 
-    /// The message as it waits, with its first bytes or without them, where so many of others wait beside it.
-    #[inline]
+    /// Whether a message waits without its text, where so many of others wait beside it.
+    #[inline(always)]
     fn fit(
         &mut self,
-        message: SeenMessage<Kept>,
+        message: &SeenMessage<Kept>,
         beside: usize,
         room: WatchRoom,
-    ) -> Result<SeenMessage<Kept>, AllocError> {
+    ) -> Result<bool, AllocError> {
         let count = message.kept.cost();
         if count <= room.text.saturating_sub(beside) {
             self.text = beside + count;
-            Ok(message)
+            Ok(false)
         } else {
             self.text = beside;
             self.missed.count_text()?;
-            Ok(SeenMessage {
-                frame: message.frame,
-                kept: Kept::bare(),
-            })
+            Ok(true)
         }
+    }
+}
+
+/// The message, without its text if it is to be bare.
+#[inline(always)]
+fn bare_if(is_bare: bool, message: SeenMessage<Kept>) -> SeenMessage<Kept> {
+    if is_bare {
+        SeenMessage {
+            frame: message.frame,
+            kept: Kept::bare(),
+        }
+    } else {
+        message
     }
 }
 
