@@ -11,6 +11,18 @@ pub record Bits : Type 0 where
 abbrev pub bits : List Bool → (room : ℕ) → (at : Ptr) → Bits
 bits bs room at = record { bits = bs; room = room; at = at }
 
+-- Two bits for each cell, whether it has a value and whether that has no bytes; for how many cells there is room, and where the bytes that have
+-- the bits begin in memory.
+pub record Marks : Type 0 where
+  pub valid : List Bool
+  pub empty : List Bool
+  pub room : ℕ
+  pub valid_at : Ptr
+  pub empty_at : Ptr
+
+abbrev pub marks : (valid empty : List Bool) → (room : ℕ) → (valid_at empty_at : Ptr) → Marks
+marks valid empty room valid_at empty_at = record { valid = valid; empty = empty; room = room; valid_at = valid_at; empty_at = empty_at }
+
 abbrev pub digit : Bool → ℕ
 digit true = 1
 digit false = 0

@@ -43,15 +43,6 @@ impl<A: Allocator> Bits<A> {
         })
     }
 
-    /// How many there are.
-    #[tactic(auto, using(crate::proofs::Numbers::bits_are))]
-    #[inline(always)]
-    pub fn len(&self) -> usize
-        ensures { result ≡ length self.now.bits }
-    {
-        self.len
-    }
-
     /// Where the bytes begin that have them. They stay there for as long as they live.
     pub fn address(&self) -> *const u8
         ensures { result ≡ self.now.at }
@@ -87,7 +78,7 @@ impl<A: Allocator> Bits<A> {
 
 /// Adds the bit after so many, where the bytes have only zeros.
 #[inline(always)]
-fn add_bit(bytes: &mut [u8], at: usize, bit: bool)
+pub(crate) fn add_bit(bytes: &mut [u8], at: usize, bit: bool)
     requires room { at < 8 * length bytes.old }
     requires below { number_of_bytes bytes.old < 2 ^ at }
     ensures { number_of_bytes bytes.new ≡ number_of_bytes bytes.old + worth bit at }

@@ -46,6 +46,14 @@ impl<A: Allocator> Bytes<A> {
         self.len
     }
 
+    /// How many there is room for.
+    #[inline(always)]
+    pub fn room(&self) -> usize
+        ensures { result ≡ self.now.room }
+    {
+        self.memory.len()
+    }
+
     /// The bytes.
     pub fn as_slice(&self) -> &[u8]
         ensures { result.now ≡ self.now.items }

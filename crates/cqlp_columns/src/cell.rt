@@ -167,16 +167,16 @@ pub(crate) fn put_scalar<A: Allocator>(values: &mut Bytes<A>, scalar: &Scalar<'_
         Scalar::Timeuuid(bytes) => put_array(values, bytes),
         Scalar::Decimal { scale, unscaled } => {
             put(values, &scale.to_be_bytes());
-            put(values, unscaled);
+            put_content(values, unscaled);
         }
         Scalar::Inet(Address::V4(bytes)) => put_array(values, bytes),
         Scalar::Inet(Address::V6(bytes)) => put_array(values, bytes),
-        Scalar::Ascii(text) => put(values, text.as_bytes()),
-        Scalar::Varchar(text) => put(values, text.as_bytes()),
-        Scalar::Custom(bytes) => put(values, bytes),
-        Scalar::Blob(bytes) => put(values, bytes),
-        Scalar::Varint(bytes) => put(values, bytes),
-        Scalar::Raw(bytes) => put(values, bytes),
+        Scalar::Ascii(text) => put_content(values, text.as_bytes()),
+        Scalar::Varchar(text) => put_content(values, text.as_bytes()),
+        Scalar::Custom(bytes) => put_content(values, bytes),
+        Scalar::Blob(bytes) => put_content(values, bytes),
+        Scalar::Varint(bytes) => put_content(values, bytes),
+        Scalar::Raw(bytes) => put_content(values, bytes),
     }
 }
 
@@ -189,6 +189,17 @@ pub(crate) fn put<A: Allocator>(values: &mut Bytes<A>, bytes: &[u8])
     ensures in_place { values.new.at ≡ values.old.at }
 {
     values.push(bytes);
+}
+
+/// Adds a content of any length, for which there is room. This is a call of its own, so that the loop over cells has less code.
+#[inline(never)]
+fn put_content<A: Allocator>(values: &mut Bytes<A>, bytes: &[u8])
+    requires { length values.old.items + length bytes.now ≤ values.old.room }
+    ensures items { values.new.items ≡ values.old.items ++ bytes.now }
+    ensures room { values.new.room ≡ values.old.room }
+    ensures in_place { values.new.at ≡ values.old.at }
+{
+    put(values, bytes);
 }
 
 /// Adds bytes.

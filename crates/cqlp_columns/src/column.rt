@@ -17,6 +17,7 @@ use crate::cell::{
     Cell, CellRef, is_empty, is_true, is_valid, kind_of, lend, put_scalar, stored_len,
 };
 use crate::layout::{Layout, layout_of};
+use crate::marks::Marks;
 use cqlp_kind::Kind;
 use std::alloc::{AllocError, Allocator, Global};
 use std::marker::Model;
@@ -50,16 +51,15 @@ pub enum ColumnRefusal {
 /// The cells of a column, in arrays as Apache Arrow lays them out. All memory is taken when it is made.
 #[derive(Drop)]
 pub struct Column<A: Allocator = Global> {
-    kind: Kind,
-    layout: Layout,
-    rows: u32,
-    size: usize,
-    values: Bytes<A>,
     /// The values, where they are bits.
     truths: Bits<A>,
     offsets: Vec<u64, A>,
-    valid: Bits<A>,
-    empty: Bits<A>,
+    // A number's cell reads and writes only the fields from here on. They lie together, since a row touches those of each column.
+    marks: Marks<A>,
+    values: Bytes<A>,
+    rows: u32,
+    layout: Layout,
+    kind: Kind,
 }
 
 impl<A: Allocator> Model for Column<A> {
@@ -77,25 +77,23 @@ impl<A: Allocator> Model for Column<A> {
         values = c.values.at;
         truths = c.truths.at;
         offsets = vec_ptr c.offsets;
-        valid = c.valid.at;
-        empty = c.empty.at;
+        valid = c.marks.valid_at;
+        empty = c.marks.empty_at;
       };
       layout = c.layout;
       rows = c.rows;
-      size = c.size;
+      size = c.values.room;
       values = c.values.items;
       truths = c.truths.bits;
       offsets = c.offsets.items;
-      valid = c.valid.bits;
-      empty = c.empty.bits;
+      valid = c.marks.valid;
+      empty = c.marks.empty;
     } };
 
-    ghost invariant = { λ c. (c.size ≤ c.values.room) × (c.rows + 1 ≤ vec_capacity c.offsets)
-        × (c.rows ≤ c.truths.room) × (c.rows ≤ c.valid.room) × (c.rows ≤ c.empty.room)
-        × (length c.truths.bits ≤ length c.valid.bits) × (length c.empty.bits ≡ length c.valid.bits)
-        × (length c.offsets.items ≤ length c.valid.bits + 1) × (layout_of c.kind ≡ Some c.layout)
-        × (c.values.room ≡ c.size) × (vec_capacity c.offsets ≡ c.rows + 1) × (c.truths.room ≡ 8 * rounded c.rows)
-        × (c.valid.room ≡ 8 * rounded c.rows) × (c.empty.room ≡ 8 * rounded c.rows) };
+    ghost invariant = { λ c. (c.rows + 1 ≤ vec_capacity c.offsets) × (c.rows ≤ c.truths.room) × (c.rows ≤ c.marks.room)
+        × (length c.truths.bits ≤ length c.marks.valid) × (length c.marks.empty ≡ length c.marks.valid)
+        × (length c.offsets.items ≤ length c.marks.valid + 1) × (layout_of c.kind ≡ Some c.layout)
+        × (vec_capacity c.offsets ≡ c.rows + 1) × (c.truths.room ≡ 8 * rounded c.rows) × (c.marks.room ≡ 8 * rounded c.rows) };
 }
 
 impl<A: Allocator> Column<A> {
@@ -137,15 +135,13 @@ impl<A: Allocator> Column<A> {
         let mut offsets = Vec::with_capacity(alloc.clone()?, rows as usize + 1)?;
         put_offset(&mut offsets, layout, 0);
         Ok(Column {
-            kind,
-            layout,
-            rows,
-            size,
-            values: Bytes::new(alloc.clone()?, size)?,
             truths: Bits::new(alloc.clone()?, rows)?,
             offsets,
-            valid: Bits::new(alloc.clone()?, rows)?,
-            empty: Bits::new(alloc, rows)?,
+            marks: Marks::new(alloc.clone()?, rows)?,
+            values: Bytes::new(alloc, size)?,
+            rows,
+            layout,
+            kind,
         })
     }
 
@@ -184,7 +180,7 @@ impl<A: Allocator> Column<A> {
     pub fn validity(&self) -> &[u8]
         ensures { Spells self.now.valid result.now }
     {
-        self.valid.as_slice()
+        self.marks.valid()
     }
 
     /// A bit for each cell: whether it has a value of no bytes. Among numbers and other values of a fixed length these have no other place, and
@@ -192,7 +188,7 @@ impl<A: Allocator> Column<A> {
     pub fn empties(&self) -> &[u8]
         ensures { Spells self.now.empty result.now }
     {
-        self.empty.as_slice()
+        self.marks.empty()
     }
 
     /// Where its values begin in memory. Each array stays where it is for as long as the column lives.
@@ -216,28 +212,28 @@ impl<A: Allocator> Column<A> {
     pub fn validity_address(&self) -> *const u8
         ensures { result ≡ self.now.places.valid }
     {
-        self.valid.address()
+        self.marks.valid_address()
     }
 
     /// Where the bits begin that say which cells have a value of no bytes.
     pub fn empties_address(&self) -> *const u8
         ensures { result ≡ self.now.places.empty }
     {
-        self.empty.address()
+        self.marks.empty_address()
     }
 
     /// How many cells it has.
     pub fn len(&self) -> usize
         ensures { result ≡ length self.now.valid }
     {
-        self.valid.len()
+        self.marks.len()
     }
 
     /// Whether it has none.
     pub fn is_empty(&self) -> bool
         ensures { result ≡ (length self.now.valid == 0) }
     {
-        self.valid.len() == 0
+        self.marks.len() == 0
     }
 
     /// Whether it has at most so many bytes of values.
@@ -306,9 +302,9 @@ impl<A: Allocator> Column<A> {
     fn fits(&self, cell: CellRef<'_>) -> bool
         ensures { result ≡ fits (cell_in cell.entry) self.now }
     {
-        self.valid.len() < self.rows as usize
-            && self.values.len() <= self.size
-            && cell_len(self.layout, cell) <= self.size - self.values.len()
+        self.marks.len() < self.rows as usize
+            && self.values.len() <= self.values.room()
+            && cell_len(self.layout, cell) <= self.values.room() - self.values.len()
     }
 
     /// How its values lie in memory, asked of its kind: where the kind is known, nothing is left to ask.
@@ -329,11 +325,10 @@ impl<A: Allocator> Column<A> {
         ensures { self.new ≡ with_cell (cell_in cell.entry) self.old }
     {
         let layout = self.layout_of_kind();
+        self.marks.push(is_valid(layout, cell), is_empty(cell));
         put_cell(&mut self.values, layout, cell);
         let end = self.values.len() as u64;
         put_beside(&mut self.truths, &mut self.offsets, layout, cell, end);
-        self.valid.push(is_valid(layout, cell));
-        self.empty.push(is_empty(cell));
     }
 
     /// Removes all cells, and keeps the memory.
@@ -344,8 +339,7 @@ impl<A: Allocator> Column<A> {
         self.truths.clear();
         remove_all(&mut self.offsets);
         put_offset(&mut self.offsets, self.layout, 0);
-        self.valid.clear();
-        self.empty.clear();
+        self.marks.clear();
     }
 }
 

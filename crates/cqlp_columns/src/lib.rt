@@ -10,6 +10,7 @@ mod filled;
 mod found;
 pub mod laws;
 mod layout;
+mod marks;
 mod page_columns;
 
 pub use cell::Cell;

@@ -23,13 +23,6 @@ impl Bits {
         })
     }
 
-    /// How many there are.
-    #[inline(always)]
-    #[must_use]
-    pub fn len(&self) -> usize {
-        self.len
-    }
-
     /// Where the bytes begin that have them. They stay there for as long as they live.
     #[cfg_attr(not(feature = "cli"), inline)]
     #[must_use]
@@ -61,7 +54,7 @@ impl Bits {
 
 /// Adds the bit after so many, where the bytes have only zeros.
 #[inline(always)]
-fn add_bit(bytes: &mut [u8], at: usize, bit: bool) {
+pub(crate) fn add_bit(bytes: &mut [u8], at: usize, bit: bool) {
     if bit {
         bytes[at / 8] += 1 << (at % 8);
     }

@@ -29,6 +29,13 @@ impl Bytes {
         self.len
     }
 
+    /// How many there is room for.
+    #[inline(always)]
+    #[must_use]
+    pub fn room(&self) -> usize {
+        self.memory.len()
+    }
+
     /// The bytes.
     #[cfg_attr(not(feature = "cli"), inline)]
     #[must_use]

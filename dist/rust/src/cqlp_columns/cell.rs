@@ -142,16 +142,16 @@ pub(crate) fn put_scalar(values: &mut Bytes, scalar: &Scalar<'_>) {
         Scalar::Timeuuid(bytes) => put_array(values, bytes),
         Scalar::Decimal { scale, unscaled } => {
             put(values, &scale.to_be_bytes());
-            put(values, unscaled);
+            put_content(values, unscaled);
         }
         Scalar::Inet(Address::V4(bytes)) => put_array(values, bytes),
         Scalar::Inet(Address::V6(bytes)) => put_array(values, bytes),
-        Scalar::Ascii(text) => put(values, text.as_bytes()),
-        Scalar::Varchar(text) => put(values, text.as_bytes()),
-        Scalar::Custom(bytes) => put(values, bytes),
-        Scalar::Blob(bytes) => put(values, bytes),
-        Scalar::Varint(bytes) => put(values, bytes),
-        Scalar::Raw(bytes) => put(values, bytes),
+        Scalar::Ascii(text) => put_content(values, text.as_bytes()),
+        Scalar::Varchar(text) => put_content(values, text.as_bytes()),
+        Scalar::Custom(bytes) => put_content(values, bytes),
+        Scalar::Blob(bytes) => put_content(values, bytes),
+        Scalar::Varint(bytes) => put_content(values, bytes),
+        Scalar::Raw(bytes) => put_content(values, bytes),
     }
 }
 
@@ -159,6 +159,12 @@ pub(crate) fn put_scalar(values: &mut Bytes, scalar: &Scalar<'_>) {
 #[inline(always)]
 pub(crate) fn put(values: &mut Bytes, bytes: &[u8]) {
     values.kit_push(bytes);
+}
+
+/// Adds a content of any length, for which there is room. This is a call of its own, so that the loop over cells has less code.
+#[inline(never)]
+fn put_content(values: &mut Bytes, bytes: &[u8]) {
+    put(values, bytes);
 }
 
 /// Adds bytes.

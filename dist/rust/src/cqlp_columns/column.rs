@@ -8,6 +8,7 @@ use crate::cqlp_columns::cell::{
     Cell, CellRef, is_empty, is_true, is_valid, kind_of, lend, put_scalar, stored_len,
 };
 use crate::cqlp_columns::layout::{Layout, layout_of};
+use crate::cqlp_columns::marks::Marks;
 use crate::cqlp_kind::Kind;
 use crate::kit_std::alloc::{AllocError};
 
@@ -42,16 +43,15 @@ pub enum ColumnRefusal {
 
 /// The cells of a column, in arrays as Apache Arrow lays them out. All memory is taken when it is made.
 pub struct Column {
-    kind: Kind,
-    layout: Layout,
-    rows: u32,
-    size: usize,
-    values: Bytes,
     /// The values, where they are bits.
     truths: Bits,
     offsets: Vec<u64>,
-    valid: Bits,
-    empty: Bits,
+    // A number's cell reads and writes only the fields from here on. They lie together, since a row touches those of each column.
+    marks: Marks,
+    values: Bytes,
+    rows: u32,
+    layout: Layout,
+    kind: Kind,
 }
 
 impl Column {
@@ -83,15 +83,13 @@ impl Column {
         let mut offsets = Vec::kit_with_capacity(rows as usize + 1)?;
         put_offset(&mut offsets, layout, 0);
         Ok(Column {
-            kind,
-            layout,
-            rows,
-            size,
-            values: Bytes::new(size)?,
             truths: Bits::new(rows)?,
             offsets,
-            valid: Bits::new(rows)?,
-            empty: Bits::new(rows)?,
+            marks: Marks::new(rows)?,
+            values: Bytes::new(size)?,
+            rows,
+            layout,
+            kind,
         })
     }
 
@@ -130,7 +128,7 @@ impl Column {
     #[cfg_attr(not(feature = "cli"), inline)]
     #[must_use]
     pub fn validity(&self) -> &[u8] {
-        self.valid.as_slice()
+        self.marks.valid()
     }
 
     /// A bit for each cell: whether it has a value of no bytes. Among numbers and other values of a fixed length these have no other place, and
@@ -138,7 +136,7 @@ impl Column {
     #[cfg_attr(not(feature = "cli"), inline)]
     #[must_use]
     pub fn empties(&self) -> &[u8] {
-        self.empty.as_slice()
+        self.marks.empty()
     }
 
     /// Where its values begin in memory. Each array stays where it is for as long as the column lives.
@@ -162,28 +160,28 @@ impl Column {
     #[cfg_attr(not(feature = "cli"), inline)]
     #[must_use]
     pub fn validity_address(&self) -> *const u8 {
-        self.valid.address()
+        self.marks.valid_address()
     }
 
     /// Where the bits begin that say which cells have a value of no bytes.
     #[cfg_attr(not(feature = "cli"), inline)]
     #[must_use]
     pub fn empties_address(&self) -> *const u8 {
-        self.empty.address()
+        self.marks.empty_address()
     }
 
     /// How many cells it has.
     #[cfg_attr(not(feature = "cli"), inline)]
     #[must_use]
     pub fn len(&self) -> usize {
-        self.valid.len()
+        self.marks.len()
     }
 
     /// Whether it has none.
     #[cfg_attr(not(feature = "cli"), inline)]
     #[must_use]
     pub fn is_empty(&self) -> bool {
-        self.valid.len() == 0
+        self.marks.len() == 0
     }
 
     /// Whether it has at most so many bytes of values.
@@ -238,9 +236,9 @@ impl Column {
     /// Whether there is room for a cell.
     #[inline(always)]
     fn fits(&self, cell: CellRef<'_>) -> bool {
-        self.valid.len() < self.rows as usize
-            && self.values.len() <= self.size
-            && cell_len(self.layout, cell) <= self.size - self.values.len()
+        self.marks.len() < self.rows as usize
+            && self.values.len() <= self.values.room()
+            && cell_len(self.layout, cell) <= self.values.room() - self.values.len()
     }
 
     /// How its values lie in memory, asked of its kind: where the kind is known, nothing is left to ask.
@@ -256,11 +254,10 @@ impl Column {
     #[inline(always)]
     pub(crate) fn kit_push(&mut self, cell: CellRef<'_>) {
         let layout = self.layout_of_kind();
+        self.marks.kit_push(is_valid(layout, cell), is_empty(cell));
         put_cell(&mut self.values, layout, cell);
         let end = self.values.len() as u64;
         put_beside(&mut self.truths, &mut self.offsets, layout, cell, end);
-        self.valid.kit_push(is_valid(layout, cell));
-        self.empty.kit_push(is_empty(cell));
     }
 
     /// Removes all cells, and keeps the memory.
@@ -270,8 +267,7 @@ impl Column {
         self.truths.clear();
         remove_all(&mut self.offsets);
         put_offset(&mut self.offsets, self.layout, 0);
-        self.valid.clear();
-        self.empty.clear();
+        self.marks.clear();
     }
 }
 

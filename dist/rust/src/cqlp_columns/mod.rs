@@ -9,6 +9,7 @@ mod columns;
 mod filled;
 mod found;
 mod layout;
+mod marks;
 mod page_columns;
 
 pub use cell::Cell;
