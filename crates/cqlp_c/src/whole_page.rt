@@ -307,13 +307,13 @@ fn write_cell<'a>(c_event: &CqlpEvent, contents: &'a [u8], room: &mut [u8]) -> (
 {
     if c_event.tag == TAG_LEAF {
         match c_event.kind {
-            KIND_INT => write_leaf(Kind::Int, c_event, contents, room),
-            KIND_BIGINT => write_leaf(Kind::Bigint, c_event, contents, room),
+            KIND_INT => write_leaf::<INT>(c_event, contents, room),
+            KIND_BIGINT => write_leaf::<BIGINT>(c_event, contents, room),
             KIND_VARCHAR | KIND_BLOB => write_lent(c_event, contents, room),
-            KIND_BOOLEAN => write_leaf(Kind::Boolean, c_event, contents, room),
-            KIND_DOUBLE => write_leaf(Kind::Double, c_event, contents, room),
-            KIND_TIMESTAMP => write_leaf(Kind::Timestamp, c_event, contents, room),
-            KIND_UUID => write_leaf(Kind::Uuid, c_event, contents, room),
+            KIND_BOOLEAN => write_leaf::<BOOLEAN>(c_event, contents, room),
+            KIND_DOUBLE => write_leaf::<DOUBLE>(c_event, contents, room),
+            KIND_TIMESTAMP => write_leaf::<TIMESTAMP>(c_event, contents, room),
+            KIND_UUID => write_leaf::<UUID>(c_event, contents, room),
             _ => write_any(c_event, contents, room),
         }
     } else {
@@ -321,10 +321,35 @@ fn write_cell<'a>(c_event: &CqlpEvent, contents: &'a [u8], room: &mut [u8]) -> (
     }
 }
 
-/// The same, where it is likely a leaf of this kind.
+// The copies of `write_leaf`, which are called where they are too long to be inlined.
+const INT: usize = 0;
+
+const BIGINT: usize = 1;
+
+const BOOLEAN: usize = 2;
+
+const DOUBLE: usize = 3;
+
+const TIMESTAMP: usize = 4;
+
+const UUID: usize = 5;
+
+/// The kind of the leaves that a copy of [`write_leaf`] writes.
 #[inline(always)]
-fn write_leaf<'a>(
-    kind: Kind,
+fn kind_of_copy(copy: usize) -> Kind {
+    match copy {
+        INT => Kind::Int,
+        BIGINT => Kind::Bigint,
+        BOOLEAN => Kind::Boolean,
+        DOUBLE => Kind::Double,
+        TIMESTAMP => Kind::Timestamp,
+        _ => Kind::Uuid,
+    }
+}
+
+/// The same, where it is likely a leaf of the kind of this copy.
+#[inline(always)]
+fn write_leaf<'a, const COPY: usize>(
     c_event: &CqlpEvent,
     contents: &'a [u8],
     room: &mut [u8],
@@ -334,7 +359,7 @@ fn write_leaf<'a>(
     ensures put { room.new ≡ model.cell_bytes c_event.now contents.now ++ drop result.0 room.old }
     ensures rest { result.1.now ≡ drop (from_c.content_len c_event.now) contents.now }
 {
-    match leaf_from_c(c_event, kind, contents) {
+    match leaf_from_c(c_event, kind_of_copy(COPY), contents) {
         Some((scalar, rest)) => {
             let event = Event::Leaf {
                 row: c_event.row,
