@@ -107,6 +107,19 @@ is_news known q r = is_prepare q.frame.header.opcode && not (is_known known (pre
 abbrev pub with_one_more : Preparation → List Preparation → List Preparation
 with_one_more p known = (if nat_lt (length known) 256 then known else drop 1 known) ++ p ∷ []
 
+-- with the statement that these messages prepare, if they are a request and its response
+abbrev pub known_with : Option (Paired Kept) → Known → Known
+known_with (Some (Exchange q r)) known = known_of (with_one_more (preparation q r) known.prepared) known.given
+known_with t known = known
+
+-- whether they prepare one that is not known
+abbrev pub has_news : List Preparation → Option (Paired Kept) → Bool
+has_news known (Some (Exchange q r)) = is_news known q r
+has_news known t = false
+
+abbrev pub known_from : Option (Paired Kept) → Known → Known
+known_from t known = if has_news known.prepared t then known_with t known else known
+
 abbrev pub known_by : Paired Kept → Known → Known
 known_by (Exchange q r) known =
     if is_news known.prepared q r then known_of (with_one_more (preparation q r) known.prepared) known.given else known

@@ -20,7 +20,7 @@ pub data Report : Type 0 where
   Unread : (time : Option ℕ) → Opening → Report
 
 abbrev pub report_of : {A : Type 0} → declared.Report.Report A → Report
-report_of (report.Messages t end) = Messages t end
+report_of (report.Messages t end) = Messages t.now end
 report_of (report.Unread time o) = Unread time o
 
 -- ---- how a connection ended, by its two directions: RST goes before FIN

@@ -59,7 +59,7 @@ pub(crate) fn put_csv<W: Target, A: Allocator, B: Allocator>(
     first: Option<u64>,
     summary: &Summary<A>,
     connection: &Connection,
-    report: &Report<B>,
+    report: &Report<'_, B>,
 ) -> Result<(), SinkFault>
     ensures text { Writes writer.old (csv_text known.now first summary.now connection.now (report_of report.now)) result writer.new }
     ensures passed { writer.new.waiting ≡ [] }
@@ -102,7 +102,7 @@ fn put_text<P: Pen, A: Allocator, B: Allocator>(
     first: Option<u64>,
     summary: &Summary<A>,
     connection: &Connection,
-    report: &Report<B>,
+    report: &Report<'_, B>,
 ) -> Result<(), SinkFault>
     ensures { Writes writer.old (csv_text known.now first summary.now connection.now (report_of report.now)) result writer.new }
 {
@@ -129,7 +129,7 @@ fn put_record<P: Pen, A: Allocator>(
     known: &Known<A>,
     first: Option<u64>,
     connection: &Connection,
-    report: &Report<A>,
+    report: &Report<'_, A>,
 ) -> Result<(), SinkFault>
     ensures { Writes writer.old (record_of known.now first connection.now (report_of report.now)) result writer.new }
 {

@@ -111,7 +111,7 @@ impl ExchangeFilter {
         known: &Known<A>,
         first: Option<u64>,
         connection: &Connection,
-        report: &Report<A>,
+        report: &Report<'_, A>,
     ) -> bool
         ensures { result ≡ shows self.now known.now first connection.now (report_of report.now) }
     {
@@ -184,7 +184,7 @@ fn is_of(asked: Option<u64>, number: u64) -> bool
 }
 
 /// Whether the reply took at least so long.
-fn is_slow<A: Allocator>(least: Option<u64>, report: &Report<A>) -> bool
+fn is_slow<A: Allocator>(least: Option<u64>, report: &Report<'_, A>) -> bool
     ensures { result ≡ is_slow least (report_of report.now) }
 {
     match least {
@@ -193,7 +193,7 @@ fn is_slow<A: Allocator>(least: Option<u64>, report: &Report<A>) -> bool
     }
 }
 
-fn reported_slow<A: Allocator>(least: u64, report: &Report<A>) -> bool
+fn reported_slow<A: Allocator>(least: u64, report: &Report<'_, A>) -> bool
     ensures { result ≡ reported_slow least (report_of report.now) }
 {
     match report {
@@ -223,7 +223,7 @@ fn is_at_least(least: u64, time: Option<Span>) -> bool
 }
 
 /// Whether the reply is an ERROR or did not come to its end, or there is none to a request, or the connection is not read.
-fn is_trouble<A: Allocator>(report: &Report<A>) -> bool
+fn is_trouble<A: Allocator>(report: &Report<'_, A>) -> bool
     ensures { result ≡ is_trouble (report_of report.now) }
 {
     match report {
@@ -257,7 +257,7 @@ pub(crate) fn is_error(opcode: Opcode) -> bool
 }
 
 /// Whether the request has the opcode that is asked for.
-fn is_asking<A: Allocator>(asked: Option<Opcode>, report: &Report<A>) -> bool
+fn is_asking<A: Allocator>(asked: Option<Opcode>, report: &Report<'_, A>) -> bool
     ensures { result ≡ is_asking asked (report_of report.now) }
 {
     match asked {
@@ -266,7 +266,7 @@ fn is_asking<A: Allocator>(asked: Option<Opcode>, report: &Report<A>) -> bool
     }
 }
 
-fn reported_asking<A: Allocator>(opcode: Opcode, report: &Report<A>) -> bool
+fn reported_asking<A: Allocator>(opcode: Opcode, report: &Report<'_, A>) -> bool
     ensures { result ≡ reported_asking opcode (report_of report.now) }
 {
     match report {
@@ -292,7 +292,7 @@ fn has_opcode(opcode: Opcode, frame: &Frame) -> bool
 }
 
 /// Whether the reply is of the kind that is asked for.
-fn is_replied<A: Allocator>(asked: Option<ReplyKind>, report: &Report<A>) -> bool
+fn is_replied<A: Allocator>(asked: Option<ReplyKind>, report: &Report<'_, A>) -> bool
     ensures { result ≡ is_replied asked (report_of report.now) }
 {
     match asked {
@@ -301,7 +301,7 @@ fn is_replied<A: Allocator>(asked: Option<ReplyKind>, report: &Report<A>) -> boo
     }
 }
 
-fn reported_replied<A: Allocator>(kind: ReplyKind, report: &Report<A>) -> bool
+fn reported_replied<A: Allocator>(kind: ReplyKind, report: &Report<'_, A>) -> bool
     ensures { result ≡ reported_replied kind (report_of report.now) }
 {
     match report {
@@ -351,7 +351,7 @@ fn is_error_with(code: u32, reply: Reply) -> bool
 }
 
 /// When the first byte of what is reported came.
-fn begun<A: Allocator>(report: &Report<A>) -> Option<u64>
+fn begun<A: Allocator>(report: &Report<'_, A>) -> Option<u64>
     ensures { result ≡ begun (report_of report.now) }
 {
     match report {
@@ -404,7 +404,7 @@ fn is_at_most(most: u64, time: Option<Span>) -> bool
 fn is_saying<A: Allocator>(
     asked: &Option<StatementPart>,
     known: &Known<A>,
-    report: &Report<A>,
+    report: &Report<'_, A>,
 ) -> bool
     ensures { result ≡ is_saying asked.now known.now (report_of report.now) }
 {
@@ -415,7 +415,11 @@ fn is_saying<A: Allocator>(
 }
 
 /// Whether the text of a request's statement has a match of the pattern that is asked for.
-fn is_matching<A: Allocator>(asked: &Option<Pattern>, known: &Known<A>, report: &Report<A>) -> bool
+fn is_matching<A: Allocator>(
+    asked: &Option<Pattern>,
+    known: &Known<A>,
+    report: &Report<'_, A>,
+) -> bool
     ensures { result ≡ is_matching asked.now known.now (report_of report.now) }
 {
     match asked {

@@ -17,7 +17,10 @@ use cqlp_text::{Buffered, TextWriter};
 use std::alloc::Allocator;
 
 /// Counts the request of a report, if it has one.
-pub(crate) fn note_by_time<A: Allocator, B: Allocator>(summary: &mut Summary<A>, report: &Report<B>)
+pub(crate) fn note_by_time<A: Allocator, B: Allocator>(
+    summary: &mut Summary<A>,
+    report: &Report<'_, B>,
+)
     ensures { summary.new ≡ with_report_by_time (report_of report.now) summary.old }
 {
     match outcome_in(report) {

@@ -20,7 +20,7 @@ use cqlp_text::{Buffered, Pen, TextWriter};
 use std::alloc::Allocator;
 
 /// What came of the request of a report, if it has one.
-pub(crate) fn outcome_in<B: Allocator>(report: &Report<B>) -> Option<Outcome>
+pub(crate) fn outcome_in<B: Allocator>(report: &Report<'_, B>) -> Option<Outcome>
     ensures { result ≡ outcome_in (report_of report.now) }
 {
     match report {
@@ -53,7 +53,7 @@ fn over_at(outcome: &Outcome) -> Option<u64>
 pub(crate) fn note_in_interval<A: Allocator, B: Allocator>(
     summary: &mut Summary<A>,
     seconds: u32,
-    report: &Report<B>,
+    report: &Report<'_, B>,
 )
     ensures { summary.new ≡ with_report_in_interval seconds (report_of report.now) summary.old }
 {
@@ -84,7 +84,7 @@ pub(crate) fn put_if_over<W: Target, A: Allocator, B: Allocator>(
     shown: IntervalsAs,
     seconds: u32,
     summary: &Summary<A>,
-    report: &Report<B>,
+    report: &Report<'_, B>,
 ) -> Result<(), SinkFault>
     requires { writer.old.waiting ≡ [] }
     ensures text { Writes writer.old (text_before shown seconds (report_of report.now) summary.now) result writer.new }

@@ -48,7 +48,7 @@ pub(crate) fn put_line<W: Target, A: Allocator, B: Allocator>(
     style: LineStyle,
     first: Option<u64>,
     connection: &Connection,
-    report: &Report<B>,
+    report: &Report<'_, B>,
 ) -> Result<(), SinkFault>
     ensures line { Writes writer.old (line known.now style first connection.now (report_of report.now)) result writer.new }
     ensures passed { writer.new.waiting ≡ [] }
@@ -64,7 +64,7 @@ fn put_report<P: Pen, A: Allocator>(
     style: LineStyle,
     first: Option<u64>,
     connection: &Connection,
-    report: &Report<A>,
+    report: &Report<'_, A>,
 ) -> Result<(), SinkFault>
     ensures { Writes writer.old (line known.now style first connection.now (report_of report.now)) result writer.new }
 {

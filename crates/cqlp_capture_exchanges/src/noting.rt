@@ -39,7 +39,7 @@ pub(crate) fn note<A: Allocator, B: Allocator>(
     form: ExchangeForm,
     known: &Known<B>,
     connection: &Connection,
-    report: &Report<B>,
+    report: &Report<'_, B>,
 )
     ensures { summary.new ≡ noted_in form known.now connection.now (report_of report.now) summary.old }
 {
@@ -60,7 +60,7 @@ fn note_report<A: Allocator, B: Allocator>(
     by: SummaryBy,
     known: &Known<B>,
     connection: &Connection,
-    report: &Report<B>,
+    report: &Report<'_, B>,
 )
     ensures { summary.new ≡ with_report by known.now connection.now (report_of report.now) summary.old }
 {

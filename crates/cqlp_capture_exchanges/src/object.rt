@@ -47,7 +47,7 @@ pub(crate) fn put_json_line<W: Target, A: Allocator, B: Allocator>(
     shown: ValuesShown,
     first: Option<u64>,
     connection: &Connection,
-    report: &Report<B>,
+    report: &Report<'_, B>,
 ) -> Result<(), SinkFault>
     ensures line { Writes writer.old (json_line known.now shown first connection.now (report_of report.now)) result writer.new }
     ensures passed { writer.new.waiting ≡ [] }
@@ -63,7 +63,7 @@ fn put_report<P: Pen, A: Allocator>(
     shown: ValuesShown,
     first: Option<u64>,
     connection: &Connection,
-    report: &Report<A>,
+    report: &Report<'_, A>,
 ) -> Result<(), SinkFault>
     ensures { Writes writer.old (json_line known.now shown first connection.now (report_of report.now)) result writer.new }
 {

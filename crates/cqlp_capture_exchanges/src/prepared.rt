@@ -3,7 +3,7 @@
 ghost use Rattle.std.specs.Prelude.{◌≡◌, ◌≤◌, [], drop, length, option_map, vec_capacity, IfOk};
 ghost use Rattle.std.specs.List.{list_any};
 ghost use Rattle.std.specs.Str.{bytes_eq};
-ghost use Rattle.cqlp_capture_exchanges.specs.Prepared.{id_of_said, is_news, is_of, named, named_id, prepared_id};
+ghost use Rattle.cqlp_capture_exchanges.specs.Prepared.{has_news, id_of_said, is_news, is_of, known_from, known_with, named, named_id, prepared_id};
 ghost use Rattle.cqlp_capture_exchanges.specs.Prepared.{known_of, known_text, prepared_front, response_for, said_in, text_for, with_one_more};
 ghost use Rattle.cqlp_capture_exchanges.specs.Statements.{said_of, short_bytes};
 ghost use Rattle.cqlp_statement_file.specs.Texts.{text_of};
@@ -11,7 +11,7 @@ ghost use Rattle.cqlp_statement_file.specs.Texts.{text_of};
 use crate::reply::{Reply, reply_of};
 use crate::statement::{Statement, short_bytes, statement_of};
 use cqlp_note::Opcode;
-use cqlp_observer::{Kept, Message};
+use cqlp_observer::{Kept, Message, Paired};
 use cqlp_statement_file::StatementTexts;
 use std::alloc::{AllocError, Allocator, Global};
 use std::marker::Model;
@@ -131,18 +131,27 @@ impl<A: Allocator> Known<A> {
         }
     }
 
-    /// Whether a request is a PREPARE and its response gives its statement an id that no other PREPARE has.
-    pub(crate) fn is_news(&self, request: &Message<Kept<A>>, response: &Message<Kept<A>>) -> bool
-        ensures { result ≡ is_news self.now.prepared request.now response.now }
+    /// Keeps the statement that these messages prepare, with its id, if they prepare one that is not known. They are moved only then.
+    pub(crate) fn learn(&mut self, exchange: &mut Option<Paired<Kept<A>>>)
+        ensures { self.new ≡ known_from exchange.old self.old }
     {
-        is_news(&self.prepared, request, response)
+        if has_news(&self.prepared, exchange) {
+            self.add(exchange.take());
+        }
     }
 
-    /// Puts a statement behind the others that were prepared; where there are too many, the first one goes.
-    pub(crate) fn add(&mut self, one: Preparation<A>)
-        ensures { self.new ≡ known_of (with_one_more one self.old.prepared) self.old.given }
+    /// Keeps the statement that these messages prepare, if they are a request and its response.
+    #[cold]
+    fn add(&mut self, exchange: Option<Paired<Kept<A>>>)
+        ensures { self.new ≡ known_with exchange self.old }
     {
-        add_known(&mut self.prepared, one);
+        match exchange {
+            Some(Paired::Exchange { request, response }) => {
+                add_known(&mut self.prepared, Preparation { request, response });
+            }
+            Some(Paired::Unanswered { .. } | Paired::Unasked { .. } | Paired::Event { .. })
+            | None => {}
+        }
     }
 
     /// The text of the statement with this id, if it is known.
@@ -201,6 +210,18 @@ fn response_for<'a, A: Allocator>(known: &'a [Preparation<A>], id: &[u8]) -> &'a
         }
     }
     &[]
+}
+
+/// Whether these are a PREPARE and its response, which gives its statement an id that is not known.
+fn has_news<A: Allocator>(known: &[Preparation<A>], exchange: &Option<Paired<Kept<A>>>) -> bool
+    ensures { result ≡ has_news known.now exchange.now }
+{
+    match exchange {
+        Some(Paired::Exchange { request, response }) => is_news(known, request, response),
+        Some(Paired::Unanswered { .. } | Paired::Unasked { .. } | Paired::Event { .. }) | None => {
+            false
+        }
+    }
 }
 
 /// Whether a request is a PREPARE and its response gives its statement an id that is not known.

@@ -18,12 +18,12 @@ pub enum ConnectionEnd {
     Open,
 }
 
-/// What is reported of a connection.
+/// What is reported of a connection. It lends the messages, which are large.
 #[derive(Drop)]
-pub enum Report<A: Allocator = Global> {
+pub enum Report<'a, A: Allocator = Global> {
     /// A request, a response, or both; of those that wait when their connection is finished also how that ended.
     Messages {
-        paired: Paired<Kept<A>>,
+        paired: &'a Paired<Kept<A>>,
         end: Option<ConnectionEnd>,
     },
     /// The first bytes of a direction, captured at this time, are no frame of version 4.

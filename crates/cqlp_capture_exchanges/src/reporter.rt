@@ -17,7 +17,7 @@ use crate::intervals::{put_if_over, put_interval};
 use crate::lines::put_line;
 use crate::noting::note;
 use crate::object::put_json_line;
-use crate::prepared::{Known, Preparation};
+use crate::prepared::Known;
 use crate::report::{ConnectionEnd, Report, is_unread};
 use crate::summary_objects::put_summary_objects;
 use crate::sums::ExchangeSums;
@@ -25,7 +25,7 @@ use cqlp_capture_streams::StreamsFault;
 use cqlp_capture_summary::Summary;
 use cqlp_grammar::SinkFault;
 use cqlp_note::Target;
-use cqlp_observer::{Kept, Message, Opening, Paired};
+use cqlp_observer::{Kept, Opening, Paired};
 use cqlp_text::{Buffered, TextWriter};
 use std::alloc::{Allocator, Global};
 use std::marker::Model;
@@ -57,9 +57,8 @@ impl<O: Target, A: Allocator> Model for Reporter<O, A> {
 
 impl<O: Target, A: Allocator> Reporter<O, A> {
     ghost use Rattle.std.specs.Prelude.{◌≤◌, vec_len};
-    ghost use Rattle.cqlp_observer.specs.declared.paired.Paired.TheVariants.{Exchange};
-    ghost use Rattle.cqlp_capture_exchanges.specs.Accounts.{Finishes, ReportsOne, ReportedAll, account, learned, no_sums, since};
-    ghost use Rattle.cqlp_capture_exchanges.specs.Reports.{Messages, messages, unread};
+    ghost use Rattle.cqlp_capture_exchanges.specs.Accounts.{Finishes, ReportsOne, ReportedAll, account, no_sums, since};
+    ghost use Rattle.cqlp_capture_exchanges.specs.Reports.{Unread, messages, unread};
 
     /// Of an output, with nothing reported. A line waits in the buffer until it is whole, as far as there is room for it.
     pub(crate) fn new(
@@ -110,7 +109,11 @@ impl<O: Target, A: Allocator> Reporter<O, A> {
 
     /// Takes a report of this connection.
     #[tactic(auto, using(crate::proofs::Accounts::reported_shown))]
-    fn take_report(&mut self, connection: &Connection, report: &Report<A>) -> Result<(), SinkFault>
+    fn take_report(
+        &mut self,
+        connection: &Connection,
+        report: &Report<'_, A>,
+    ) -> Result<(), SinkFault>
         ensures { IsSome self.old.output.given → ReportsOne connection.now (report_of report.now) self.old result self.new }
     {
         self.sums.count(report);
@@ -147,31 +150,26 @@ impl<O: Target, A: Allocator> Reporter<O, A> {
         put_ending(&mut self.writer, self.form, &self.summary)
     }
 
-    /// Takes a report of this connection, and learns from it.
-    fn report(&mut self, connection: &Connection, report: Report<A>) -> Result<(), StreamsFault>
-        ensures { ReportedAll connection.now (report_of report ∷ []) self.old result self.new }
-    {
-        match self.take_report(connection, &report) {
-            Ok(()) => {
-                self.learn(report);
-                Ok(())
-            }
-            Err(SinkFault) => Err(StreamsFault::Write),
-        }
-    }
-
-    /// Reports messages, if there are some; where they are reported since their connection is finished, also how that ended.
+    /// Reports messages, if there are some, and learns from them; where they are reported since their connection is finished, also how that ended.
+    /// They are large, so they stay where they are unless they are kept.
     pub(crate) fn report_messages(
         &mut self,
         connection: &Connection,
         end: Option<ConnectionEnd>,
-        exchange: Option<Paired<Kept<A>>>,
+        exchange: &mut Option<Paired<Kept<A>>>,
     ) -> Result<(), StreamsFault>
-        ensures { ReportedAll connection.now (messages end exchange) self.old result self.new }
+        ensures { ReportedAll connection.now (messages end exchange.old) self.old result self.new }
     {
-        match exchange {
-            Some(paired) => self.report(connection, Report::Messages { paired, end }),
-            None => Ok(()),
+        let taken = match &*exchange {
+            Some(paired) => self.take_report(connection, &Report::Messages { paired, end }),
+            None => return Ok(()),
+        };
+        match taken {
+            Ok(()) => {
+                self.known.learn(exchange);
+                Ok(())
+            }
+            Err(SinkFault) => Err(StreamsFault::Write),
         }
     }
 
@@ -188,41 +186,23 @@ impl<O: Target, A: Allocator> Reporter<O, A> {
         if was_reported {
             Ok(())
         } else if is_unread(opening) {
-            self.report(connection, Report::Unread { time, opening })
+            self.report_unread(connection, time, opening)
         } else {
             Ok(())
         }
     }
 
-    /// Keeps a statement that was prepared, with its id.
-    fn learn(&mut self, report: Report<A>)
-        ensures { self.new ≡ learned (report_of report) self.old }
-    {
-        match report {
-            Report::Messages { paired, end } => self.learn_paired(paired, end),
-            Report::Unread { .. } => {}
-        }
-    }
-
-    fn learn_paired(&mut self, exchange: Paired<Kept<A>>, end: Option<ConnectionEnd>)
-        ensures { self.new ≡ learned (Messages exchange end) self.old }
-    {
-        match exchange {
-            Paired::Exchange { request, response } => self.learn_exchange(request, response, end),
-            Paired::Unanswered { .. } | Paired::Unasked { .. } | Paired::Event { .. } => {}
-        }
-    }
-
-    fn learn_exchange(
+    fn report_unread(
         &mut self,
-        request: Message<Kept<A>>,
-        response: Message<Kept<A>>,
-        end: Option<ConnectionEnd>,
-    )
-        ensures { self.new ≡ learned (Messages (Exchange request response) end) self.old }
+        connection: &Connection,
+        time: Option<u64>,
+        opening: Opening,
+    ) -> Result<(), StreamsFault>
+        ensures { ReportedAll connection.now (Unread time opening ∷ []) self.old result self.new }
     {
-        if self.known.is_news(&request, &response) {
-            self.known.add(Preparation { request, response });
+        match self.take_report(connection, &Report::Unread { time, opening }) {
+            Ok(()) => Ok(()),
+            Err(SinkFault) => Err(StreamsFault::Write),
         }
     }
 }
@@ -236,7 +216,7 @@ fn put_report<W: Target, A: Allocator, B: Allocator>(
     first: Option<u64>,
     summary: &Summary<A>,
     connection: &Connection,
-    report: &Report<B>,
+    report: &Report<'_, B>,
 ) -> Result<(), SinkFault>
     requires { writer.old.waiting ≡ [] }
     ensures text { Writes writer.old (text_of form known.now first summary.now connection.now (report_of report.now)) result writer.new }

@@ -12,7 +12,7 @@ use crate::report::{ConnectionEnd, is_unread};
 use crate::reporter::Reporter;
 use cqlp_capture_streams::StreamsFault;
 use cqlp_note::Target;
-use cqlp_observer::{Kept, Missed, Opening, Paired, Unread, Watch, WatchRoom, WatchStep};
+use cqlp_observer::{Kept, Missed, Opening, Paired, Unread, Watch, WatchRoom};
 use cqlp_tcp_connections::{Delivery, Way};
 use cqlp_tcp_reassembly::StreamStep;
 use std::alloc::{AllocError, Allocator, Global};
@@ -214,22 +214,31 @@ fn hear_bytes<O: Target, A: Allocator + Clone>(
         bytes,
     } = piece;
     let mut unread = Unread::new(bytes, begins);
+    let mut reported = None;
     while unread.steps > 0 {
-        let Ok(step) = watch.take(responses, unread.bytes, time, unread.begins, room) else {
+        let Ok(step) = watch.take_into(
+            responses,
+            unread.bytes,
+            time,
+            unread.begins,
+            room,
+            &mut reported,
+        ) else {
             return Err(StreamsFault::NoMemory);
         };
-        let WatchStep {
-            used,
-            is_done,
-            opening,
-            reported,
-        } = step;
-        report_step(reporter, connection, time, *is_reported, opening, reported)?;
-        *is_reported = is_reported_after(*is_reported, opening);
-        if is_done {
+        report_step(
+            reporter,
+            connection,
+            time,
+            *is_reported,
+            step.opening,
+            &mut reported,
+        )?;
+        *is_reported = is_reported_after(*is_reported, step.opening);
+        if step.is_done {
             return Ok(());
         }
-        unread = unread.after(used);
+        unread = unread.after(step.used);
     }
     Ok(())
 }
@@ -241,9 +250,9 @@ fn report_step<O: Target, A: Allocator>(
     time: Option<u64>,
     was_reported: bool,
     opening: Opening,
-    exchange: Option<Paired<Kept<A>>>,
+    exchange: &mut Option<Paired<Kept<A>>>,
 ) -> Result<(), StreamsFault>
-    ensures { ReportedAll connection.now (unread time was_reported opening ++ messages None exchange) reporter.old result reporter.new }
+    ensures { ReportedAll connection.now (unread time was_reported opening ++ messages None exchange.old) reporter.old result reporter.new }
 {
     match reporter.report_opening(connection, time, was_reported, opening) {
         Ok(()) => reporter.report_messages(connection, None, exchange),
@@ -272,7 +281,7 @@ fn hear_gap<O: Target, A: Allocator + Clone>(
     ensures after { IsSome reporter.old.output.given → OnOk result (watch.new ≡ (after_gap responses length time room watch.old).after) }
 {
     match watch.gap(responses, length, time, room) {
-        Ok(exchange) => reporter.report_messages(connection, None, exchange),
+        Ok(mut exchange) => reporter.report_messages(connection, None, &mut exchange),
         Err(AllocError) => Err(StreamsFault::NoMemory),
     }
 }
@@ -305,7 +314,7 @@ fn end_direction<O: Target, A: Allocator + Clone>(
     ensures after { IsSome reporter.old.output.given → OnOk result (watch.new ≡ (after_end responses room watch.old).after) }
 {
     match watch.end(responses, room) {
-        Ok(exchange) => reporter.report_messages(connection, None, exchange),
+        Ok(mut exchange) => reporter.report_messages(connection, None, &mut exchange),
         Err(AllocError) => Err(StreamsFault::NoMemory),
     }
 }
@@ -320,7 +329,7 @@ fn let_go<O: Target, A: Allocator + Clone>(
     ensures { ReportedAll connection.now (remaining end watch.old.waiting) reporter.old result reporter.new }
 {
     while let Some(exchange) = watch.finish() {
-        reporter.report_messages(connection, Some(end), Some(exchange))?;
+        reporter.report_messages(connection, Some(end), &mut Some(exchange))?;
     }
     Ok(())
 }

@@ -39,7 +39,7 @@ impl ExchangeSums {
     }
 
     /// Counts what is reported.
-    pub(crate) fn count<A: Allocator>(&mut self, report: &Report<A>)
+    pub(crate) fn count<A: Allocator>(&mut self, report: &Report<'_, A>)
         ensures { self.new ≡ with_report (report_of report.now) self.old }
     {
         match report {

@@ -8,6 +8,7 @@ use Rattle.cqlp_observer.specs.declared.pairing.Fate.TheVariants as fate_is
 use Rattle.cqlp_observer.specs.declared.missed.Missed.{Missed}
 use Rattle.cqlp_observer.specs.declared.opening.Opening.{Opening}
 use Rattle.cqlp_observer.specs.declared.room.WatchRoom.{WatchRoom}
+use Rattle.cqlp_observer.specs.declared.watch.WatchProgress.{WatchProgress}
 use Rattle.cqlp_observer.specs.declared.watch.WatchStep.{WatchStep}
 use Rattle.cqlp_observer.specs.declared.side.SideStep.{SideStep}
 use Rattle.cqlp_observer.specs.Keeping.{Kept, bare_kept, cost_of}
@@ -163,6 +164,9 @@ pub record Steps : Type 0 where
 
 abbrev pub stepping : {A : Type 0} → WatchStep A → Watched → Steps
 stepping step w = record { used = step.used; is_done = step.is_done; opening = step.opening; reported = step.reported; after = w }
+
+abbrev pub progressing : WatchProgress → Option (Paired Kept) → Watched → Steps
+progressing step reported w = record { used = step.used; is_done = step.is_done; opening = step.opening; reported = reported; after = w }
 
 abbrev pub reported_by : ℕ → (is_done : Bool) → Opening → Reporting → Steps
 reported_by used is_done opening t = record { used = used; is_done = is_done; opening = opening; reported = t.reported; after = t.after }

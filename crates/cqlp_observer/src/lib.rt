@@ -30,4 +30,4 @@ pub use pairing::Pairing;
 pub use room::WatchRoom;
 pub use subject::subject_of;
 pub use unread::Unread;
-pub use watch::{Watch, WatchStep};
+pub use watch::{Watch, WatchProgress, WatchStep};

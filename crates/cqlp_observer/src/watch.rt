@@ -36,6 +36,17 @@ pub struct Watch<A: Allocator = Global> {
     missed: MissedRecord<A>,
 }
 
+/// How much of a piece a call has used, beside what it reports.
+#[derive(Clone, Copy, Debug, PartialEq, Eq)]
+pub struct WatchProgress {
+    /// How many bytes of the piece were used.
+    pub used: usize,
+    /// Whether nothing more is reported of the piece, all of which was used.
+    pub is_done: bool,
+    /// What the direction begins with, where these are its first bytes; else `Frames`.
+    pub opening: Opening,
+}
+
 /// What the first so many bytes of a piece report.
 #[derive(Drop)]
 pub struct WatchStep<A: Allocator = Global> {
@@ -66,7 +77,7 @@ impl<A: Allocator + Clone> Watch<A> {
     ghost use Rattle.cqlp_observer.specs.Pairings.{IsPlaced};
     ghost use Rattle.cqlp_observer.specs.Watches.{after_end, after_gap, begun, ended_by, finished, fitted, fitting};
     ghost use Rattle.cqlp_observer.specs.Watches.{heard, heard_by, is_keeping_on, new_watched, opening_of};
-    ghost use Rattle.cqlp_observer.specs.Watches.{paired_if, read, reading, report_then, settled, side_of, stepping, with_recount};
+    ghost use Rattle.cqlp_observer.specs.Watches.{paired_if, progressing, read, reading, report_then, settled, side_of, stepping, with_recount};
 
     /// A connection of which nothing was seen. Takes no memory beside what clones of `alloc` do.
     ///
@@ -104,7 +115,6 @@ impl<A: Allocator + Clone> Watch<A> {
     /// # Errors
     ///
     /// Memory that is refused.
-    #[tactic(auto, using(crate::proofs::NoBytes::heard_nothing))]
     pub fn take(
         &mut self,
         responses: bool,
@@ -116,12 +126,41 @@ impl<A: Allocator + Clone> Watch<A> {
         ensures reported { IfOk result (λ step. stepping step self.new ≡ heard responses time begins piece.now room self.old) }
         ensures within { IfOk result (λ step. step.used ≤ length piece.now) }
     {
+        let mut reported = None;
+        let progress = self.take_into(responses, piece, time, begins, room, &mut reported)?;
+        Ok(WatchStep {
+            used: progress.used,
+            is_done: progress.is_done,
+            opening: progress.opening,
+            reported,
+        })
+    }
+
+    /// What the next bytes of a direction report, as `take` says it. It is put in place of what `reported` has, and not moved: it has some 500 bytes.
+    ///
+    /// # Errors
+    ///
+    /// Memory that is refused.
+    #[tactic(auto, using(crate::proofs::NoBytes::heard_nothing))]
+    pub fn take_into(
+        &mut self,
+        responses: bool,
+        piece: &[u8],
+        time: Option<u64>,
+        begins: bool,
+        room: WatchRoom,
+        reported: &mut Option<Paired<Kept<A>>>,
+    ) -> Result<WatchProgress, AllocError>
+        ensures reported { IfOk result (λ step. progressing step reported.new self.new ≡ heard responses time begins piece.now room self.old) }
+        ensures within { IfOk result (λ step. step.used ≤ length piece.now) }
+    {
+        *reported = None;
         if self.is_done(responses, piece) {
-            return Ok(WatchStep::done());
+            return Ok(WatchProgress::done());
         }
         let opening = self.opening(responses, piece);
         self.missed.count_opening(opening)?;
-        self.hear(responses, piece, time, begins, room, opening)
+        self.hear(responses, piece, time, begins, room, opening, reported)
     }
 
     /// So many bytes of a direction did not come, which passed at this time, where that is known.
@@ -211,23 +250,23 @@ impl<A: Allocator + Clone> Watch<A> {
         begins: bool,
         room: WatchRoom,
         opening: Opening,
-    ) -> Result<WatchStep<A>, AllocError>
-        ensures reported { IfOk result (λ step. stepping step self.new
+        reported: &mut Option<Paired<Kept<A>>>,
+    ) -> Result<WatchProgress, AllocError>
+        requires { reported.old ≡ None }
+        ensures reported { IfOk result (λ step. progressing step reported.new self.new
             ≡ heard_by opening (read responses time begins piece.now room self.old) room) }
         ensures within { IfOk result (λ step. step.used ≤ length piece.now) }
     {
         match self.whole_head(responses, piece) {
             Some(header) => {
-                let mut reported = None;
-                self.take_frame(responses, header, piece, time, room, &mut reported)?;
-                Ok(WatchStep {
+                self.take_frame(responses, header, piece, time, room, reported)?;
+                Ok(WatchProgress {
                     used: 9 + header.length as usize,
                     is_done: false,
                     opening,
-                    reported,
                 })
             }
-            None => self.hear_part(responses, piece, time, begins, room, opening),
+            None => self.hear_part(responses, piece, time, begins, room, opening, reported),
         }
     }
 
@@ -241,17 +280,20 @@ impl<A: Allocator + Clone> Watch<A> {
         begins: bool,
         room: WatchRoom,
         opening: Opening,
-    ) -> Result<WatchStep<A>, AllocError>
-        ensures reported { IfOk result (λ step. stepping step self.new
+        reported: &mut Option<Paired<Kept<A>>>,
+    ) -> Result<WatchProgress, AllocError>
+        requires { reported.old ≡ None }
+        ensures reported { IfOk result (λ step. progressing step reported.new self.new
             ≡ heard_by opening (read responses time begins piece.now room self.old) room) }
         ensures within { IfOk result (λ step. step.used ≤ length piece.now) }
     {
         let step = self.read(responses, piece, time, begins, room)?;
-        Ok(WatchStep {
-            used: step.used,
-            is_done: step.is_done,
+        let (used, is_done) = (step.used, step.is_done);
+        self.pair_into(step.message, room, reported)?;
+        Ok(WatchProgress {
+            used,
+            is_done,
             opening,
-            reported: self.pair(step.message, room)?,
         })
     }
 
@@ -372,7 +414,6 @@ impl<A: Allocator + Clone> Watch<A> {
     }
 
     /// Pairs a message that has ended, if one has.
-    #[inline(never)]
     fn pair(
         &mut self,
         message: Option<Message<Kept<A>>>,
@@ -380,13 +421,25 @@ impl<A: Allocator + Clone> Watch<A> {
     ) -> Result<Option<Paired<Kept<A>>>, AllocError>
         ensures { IfOk result (λ reported. report_then reported self.new ≡ paired_if message room self.old) }
     {
+        let mut reported = None;
+        self.pair_into(message, room, &mut reported)?;
+        Ok(reported)
+    }
+
+    /// Pairs a message that has ended, if one has. What is reported is written where nothing is yet.
+    #[inline(never)]
+    fn pair_into(
+        &mut self,
+        message: Option<Message<Kept<A>>>,
+        room: WatchRoom,
+        reported: &mut Option<Paired<Kept<A>>>,
+    ) -> Result<(), AllocError>
+        requires { reported.old ≡ None }
+        ensures { IfOk result (λ _. report_then reported.new self.new ≡ paired_if message room self.old) }
+    {
         match message {
-            Some(message) => {
-                let mut reported = None;
-                self.pair_one(message, room, &mut reported)?;
-                Ok(reported)
-            }
-            None => Ok(None),
+            Some(message) => self.pair_one(message, room, reported),
+            None => Ok(()),
         }
     }
 
@@ -474,19 +527,18 @@ fn bare_if<A: Allocator>(is_bare: bool, message: Message<Kept<A>>) -> Message<Ke
     }
 }
 
-impl<A: Allocator> WatchStep<A> {
-    ghost use Rattle.std.specs.Prelude.{None, true};
+impl WatchProgress {
+    ghost use Rattle.std.specs.Prelude.{true};
 
     /// Nothing is reported of no bytes.
     #[inline(always)]
     fn done() -> Self
-        ensures { result ≡ record { used = 0; is_done = true; opening = Opening.Frames; reported = None } }
+        ensures { result ≡ record { used = 0; is_done = true; opening = Opening.Frames } }
     {
-        WatchStep {
+        WatchProgress {
             used: 0,
             is_done: true,
             opening: Opening::Frames,
-            reported: None,
         }
     }
 }

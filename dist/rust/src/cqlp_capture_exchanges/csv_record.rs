@@ -46,7 +46,7 @@ pub(crate) fn put_csv<W: Target>(
     first: Option<u64>,
     summary: &Summary,
     connection: &Connection,
-    report: &Report,
+    report: &Report<'_>,
 ) -> Result<(), SinkFault> {
     put_text(writer, known, first, summary, connection, report)?;
     writer.pass_on()
@@ -81,7 +81,7 @@ fn put_text<P: Pen>(
     first: Option<u64>,
     summary: &Summary,
     connection: &Connection,
-    report: &Report,
+    report: &Report<'_>,
 ) -> Result<(), SinkFault> {
     put_names_if_first(writer, summary)?;
     put_record(writer, known, first, connection, report)
@@ -104,7 +104,7 @@ fn put_record<P: Pen>(
     known: &Known,
     first: Option<u64>,
     connection: &Connection,
-    report: &Report,
+    report: &Report<'_>,
 ) -> Result<(), SinkFault> {
     match report {
         Report::Messages { paired, end } => {

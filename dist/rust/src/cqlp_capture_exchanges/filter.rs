@@ -98,7 +98,7 @@ impl ExchangeFilter {
         known: &Known,
         first: Option<u64>,
         connection: &Connection,
-        report: &Report,
+        report: &Report<'_>,
     ) -> bool {
         is_of(self.connection, connection.number)
             && self.is_between(&connection.ends)
@@ -157,14 +157,14 @@ fn is_of(asked: Option<u64>, number: u64) -> bool {
 }
 
 /// Whether the reply took at least so long.
-fn is_slow(least: Option<u64>, report: &Report) -> bool {
+fn is_slow(least: Option<u64>, report: &Report<'_>) -> bool {
     match least {
         Some(least) => reported_slow(least, report),
         None => true,
     }
 }
 
-fn reported_slow(least: u64, report: &Report) -> bool {
+fn reported_slow(least: u64, report: &Report<'_>) -> bool {
     match report {
         Report::Messages { paired, .. } => took_at_least(least, paired),
         Report::Unread { .. } => false,
@@ -188,7 +188,7 @@ fn is_at_least(least: u64, time: Option<Span>) -> bool {
 }
 
 /// Whether the reply is an ERROR or did not come to its end, or there is none to a request, or the connection is not read.
-fn is_trouble(report: &Report) -> bool {
+fn is_trouble(report: &Report<'_>) -> bool {
     match report {
         Report::Messages { paired, .. } => has_failed(paired),
         Report::Unread { .. } => true,
@@ -214,14 +214,14 @@ pub(crate) fn is_error(opcode: Opcode) -> bool {
 }
 
 /// Whether the request has the opcode that is asked for.
-fn is_asking(asked: Option<Opcode>, report: &Report) -> bool {
+fn is_asking(asked: Option<Opcode>, report: &Report<'_>) -> bool {
     match asked {
         Some(opcode) => reported_asking(opcode, report),
         None => true,
     }
 }
 
-fn reported_asking(opcode: Opcode, report: &Report) -> bool {
+fn reported_asking(opcode: Opcode, report: &Report<'_>) -> bool {
     match report {
         Report::Messages { paired, .. } => asks(opcode, paired),
         Report::Unread { .. } => false,
@@ -241,14 +241,14 @@ fn has_opcode(opcode: Opcode, frame: &SeenFrame) -> bool {
 }
 
 /// Whether the reply is of the kind that is asked for.
-fn is_replied(asked: Option<ReplyKind>, report: &Report) -> bool {
+fn is_replied(asked: Option<ReplyKind>, report: &Report<'_>) -> bool {
     match asked {
         Some(kind) => reported_replied(kind, report),
         None => true,
     }
 }
 
-fn reported_replied(kind: ReplyKind, report: &Report) -> bool {
+fn reported_replied(kind: ReplyKind, report: &Report<'_>) -> bool {
     match report {
         Report::Messages { paired, .. } => replied_by(kind, paired),
         Report::Unread { .. } => false,
@@ -288,7 +288,7 @@ fn is_error_with(code: u32, reply: Reply) -> bool {
 }
 
 /// When the first byte of what is reported came.
-fn begun(report: &Report) -> Option<u64> {
+fn begun(report: &Report<'_>) -> Option<u64> {
     match report {
         Report::Messages { paired, .. } => begun_in(paired),
         Report::Unread { time, .. } => *time,
@@ -331,7 +331,7 @@ fn is_at_most(most: u64, time: Option<Span>) -> bool {
 fn is_saying(
     asked: &Option<StatementPart>,
     known: &Known,
-    report: &Report,
+    report: &Report<'_>,
 ) -> bool {
     match asked {
         Some(part) => says(part.as_slice(), reported_statement(known, report)),
@@ -340,7 +340,7 @@ fn is_saying(
 }
 
 /// Whether the text of a request's statement has a match of the pattern that is asked for.
-fn is_matching(asked: &Option<Pattern>, known: &Known, report: &Report) -> bool {
+fn is_matching(asked: &Option<Pattern>, known: &Known, report: &Report<'_>) -> bool {
     match asked {
         Some(pattern) => has_match(pattern, reported_statement(known, report)),
         None => true,

@@ -13,7 +13,7 @@ use crate::cqlp_observer::{Kept, Paired};
 use crate::cqlp_text::{Buffered, Pen, TextWriter};
 
 /// What came of the request of a report, if it has one.
-pub(crate) fn outcome_in(report: &Report) -> Option<Outcome> {
+pub(crate) fn outcome_in(report: &Report<'_>) -> Option<Outcome> {
     match report {
         Report::Messages { paired, .. } => outcome_of(paired),
         Report::Unread { .. } => None,
@@ -40,7 +40,7 @@ fn over_at(outcome: &Outcome) -> Option<u64> {
 pub(crate) fn note_in_interval(
     summary: &mut Summary,
     seconds: u32,
-    report: &Report,
+    report: &Report<'_>,
 )
 {
     match outcome_in(report) {
@@ -67,7 +67,7 @@ pub(crate) fn put_if_over<W: Target>(
     shown: IntervalsAs,
     seconds: u32,
     summary: &Summary,
-    report: &Report,
+    report: &Report<'_>,
 ) -> Result<(), SinkFault> {
     match outcome_in(report) {
         Some(outcome) => put_before(writer, shown, seconds, summary, &outcome),

@@ -31,7 +31,7 @@ pub(crate) fn put_line<W: Target>(
     style: LineStyle,
     first: Option<u64>,
     connection: &Connection,
-    report: &Report,
+    report: &Report<'_>,
 ) -> Result<(), SinkFault> {
     put_report(writer, known, style, first, connection, report)?;
     writer.pass_on()
@@ -44,7 +44,7 @@ fn put_report<P: Pen>(
     style: LineStyle,
     first: Option<u64>,
     connection: &Connection,
-    report: &Report,
+    report: &Report<'_>,
 ) -> Result<(), SinkFault> {
     match report {
         Report::Messages { paired, end } => put_paired(

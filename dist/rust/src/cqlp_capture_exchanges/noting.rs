@@ -30,7 +30,7 @@ pub(crate) fn note(
     form: ExchangeForm,
     known: &Known,
     connection: &Connection,
-    report: &Report,
+    report: &Report<'_>,
 )
 {
     match form {
@@ -50,7 +50,7 @@ fn note_report(
     by: SummaryBy,
     known: &Known,
     connection: &Connection,
-    report: &Report,
+    report: &Report<'_>,
 )
 {
     match report {

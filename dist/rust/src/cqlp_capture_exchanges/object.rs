@@ -30,7 +30,7 @@ pub(crate) fn put_json_line<W: Target>(
     shown: ValuesShown,
     first: Option<u64>,
     connection: &Connection,
-    report: &Report,
+    report: &Report<'_>,
 ) -> Result<(), SinkFault> {
     put_report(writer, known, shown, first, connection, report)?;
     writer.pass_on()
@@ -43,7 +43,7 @@ fn put_report<P: Pen>(
     shown: ValuesShown,
     first: Option<u64>,
     connection: &Connection,
-    report: &Report,
+    report: &Report<'_>,
 ) -> Result<(), SinkFault> {
     match report {
         Report::Messages { paired, end } => put_paired(

@@ -5,7 +5,7 @@ use crate::kit_host::prelude::{KitVec, Vec};
 use crate::cqlp_capture_exchanges::reply::{Reply, reply_of};
 use crate::cqlp_capture_exchanges::statement::{Statement, short_bytes, statement_of};
 use crate::cqlp_note::Opcode;
-use crate::cqlp_observer::{Kept, SeenMessage};
+use crate::cqlp_observer::{Kept, SeenMessage, Paired};
 use crate::cqlp_statement_file::StatementTexts;
 use crate::kit_std::alloc::{AllocError};
 
@@ -87,14 +87,22 @@ impl Known {
         }
     }
 
-    /// Whether a request is a PREPARE and its response gives its statement an id that no other PREPARE has.
-    pub(crate) fn is_news(&self, request: &SeenMessage<Kept>, response: &SeenMessage<Kept>) -> bool {
-        is_news(&self.prepared, request, response)
+    /// Keeps the statement that these messages prepare, with its id, if they prepare one that is not known. They are moved only then.
+    pub(crate) fn learn(&mut self, exchange: &mut Option<Paired<Kept>>) {
+        if has_news(&self.prepared, exchange) {
+            self.add(exchange.take());
+        }
     }
 
-    /// Puts a statement behind the others that were prepared; where there are too many, the first one goes.
-    pub(crate) fn add(&mut self, one: Preparation) {
-        add_known(&mut self.prepared, one);
+    /// Keeps the statement that these messages prepare, if they are a request and its response.
+    #[cold]
+    fn add(&mut self, exchange: Option<Paired<Kept>>) {
+        match exchange {
+            Some(Paired::Exchange { request, response }) => {
+                add_known(&mut self.prepared, Preparation { request, response });
+            }
+            Some(Paired::Unanswered { .. } | Paired::Unasked { .. } | Paired::Event { .. }) | None => {}
+        }
     }
 
     /// The text of the statement with this id, if it is known.
@@ -143,6 +151,16 @@ fn response_for<'a>(known: &'a [Preparation], id: &[u8]) -> &'a [u8] {
         }
     }
     &[]
+}
+
+/// Whether these are a PREPARE and its response, which gives its statement an id that is not known.
+fn has_news(known: &[Preparation], exchange: &Option<Paired<Kept>>) -> bool {
+    match exchange {
+        Some(Paired::Exchange { request, response }) => is_news(known, request, response),
+        Some(Paired::Unanswered { .. } | Paired::Unasked { .. } | Paired::Event { .. }) | None => {
+            false
+        }
+    }
 }
 
 /// Whether a request is a PREPARE and its response gives its statement an id that is not known.

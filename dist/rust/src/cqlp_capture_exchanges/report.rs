@@ -15,11 +15,11 @@ pub enum ConnectionEnd {
     Open,
 }
 
-/// What is reported of a connection.
-pub enum Report {
+/// What is reported of a connection. It lends the messages, which are large.
+pub enum Report<'a> {
     /// A request, a response, or both; of those that wait when their connection is finished also how that ended.
     Messages {
-        paired: Paired<Kept>,
+        paired: &'a Paired<Kept>,
         end: Option<ConnectionEnd>,
     },
     /// The first bytes of a direction, captured at this time, are no frame of version 4.

@@ -11,7 +11,7 @@ use crate::cqlp_capture_exchanges::intervals::{put_if_over, put_interval};
 use crate::cqlp_capture_exchanges::lines::put_line;
 use crate::cqlp_capture_exchanges::noting::note;
 use crate::cqlp_capture_exchanges::object::put_json_line;
-use crate::cqlp_capture_exchanges::prepared::{Known, Preparation};
+use crate::cqlp_capture_exchanges::prepared::Known;
 use crate::cqlp_capture_exchanges::report::{ConnectionEnd, Report, is_unread};
 use crate::cqlp_capture_exchanges::summary_objects::put_summary_objects;
 use crate::cqlp_capture_exchanges::sums::ExchangeSums;
@@ -19,7 +19,7 @@ use crate::cqlp_capture_streams::StreamsFault;
 use crate::cqlp_capture_summary::Summary;
 use crate::cqlp_grammar::SinkFault;
 use crate::cqlp_note::Target;
-use crate::cqlp_observer::{Kept, SeenMessage, Opening, Paired};
+use crate::cqlp_observer::{Kept, Opening, Paired};
 use crate::cqlp_text::{Buffered, TextWriter};
 
 /// Counts what is reported of connections, and writes what is shown. Takes no memory.
@@ -75,7 +75,7 @@ impl<O: Target> Reporter<O> {
     }
 
     /// Takes a report of this connection.
-    fn take_report(&mut self, connection: &Connection, report: &Report) -> Result<(), SinkFault> {
+    fn take_report(&mut self, connection: &Connection, report: &Report<'_>) -> Result<(), SinkFault> {
         self.sums.count(report);
         if self
             .filter
@@ -108,27 +108,24 @@ impl<O: Target> Reporter<O> {
         put_ending(&mut self.writer, self.form, &self.summary)
     }
 
-    /// Takes a report of this connection, and learns from it.
-    fn report(&mut self, connection: &Connection, report: Report) -> Result<(), StreamsFault> {
-        match self.take_report(connection, &report) {
-            Ok(()) => {
-                self.learn(report);
-                Ok(())
-            }
-            Err(SinkFault) => Err(StreamsFault::Write),
-        }
-    }
-
-    /// Reports messages, if there are some; where they are reported since their connection is finished, also how that ended.
+    /// Reports messages, if there are some, and learns from them; where they are reported since their connection is finished, also how that ended.
+    /// They are large, so they stay where they are unless they are kept.
     pub(crate) fn report_messages(
         &mut self,
         connection: &Connection,
         end: Option<ConnectionEnd>,
-        exchange: Option<Paired<Kept>>,
+        exchange: &mut Option<Paired<Kept>>,
     ) -> Result<(), StreamsFault> {
-        match exchange {
-            Some(paired) => self.report(connection, Report::Messages { paired, end }),
-            None => Ok(()),
+        let taken = match &*exchange {
+            Some(paired) => self.take_report(connection, &Report::Messages { paired, end }),
+            None => return Ok(()),
+        };
+        match taken {
+            Ok(()) => {
+                self.known.learn(exchange);
+                Ok(())
+            }
+            Err(SinkFault) => Err(StreamsFault::Write),
         }
     }
 
@@ -143,36 +140,21 @@ impl<O: Target> Reporter<O> {
         if was_reported {
             Ok(())
         } else if is_unread(opening) {
-            self.report(connection, Report::Unread { time, opening })
+            self.report_unread(connection, time, opening)
         } else {
             Ok(())
         }
     }
 
-    /// Keeps a statement that was prepared, with its id.
-    fn learn(&mut self, report: Report) {
-        match report {
-            Report::Messages { paired, end } => self.learn_paired(paired, end),
-            Report::Unread { .. } => {}
-        }
-    }
-
-    fn learn_paired(&mut self, exchange: Paired<Kept>, end: Option<ConnectionEnd>) {
-        match exchange {
-            Paired::Exchange { request, response } => self.learn_exchange(request, response, end),
-            Paired::Unanswered { .. } | Paired::Unasked { .. } | Paired::Event { .. } => {}
-        }
-    }
-
-    fn learn_exchange(
+    fn report_unread(
         &mut self,
-        request: SeenMessage<Kept>,
-        response: SeenMessage<Kept>,
-        end: Option<ConnectionEnd>,
-    )
-    {
-        if self.known.is_news(&request, &response) {
-            self.known.add(Preparation { request, response });
+        connection: &Connection,
+        time: Option<u64>,
+        opening: Opening,
+    ) -> Result<(), StreamsFault> {
+        match self.take_report(connection, &Report::Unread { time, opening }) {
+            Ok(()) => Ok(()),
+            Err(SinkFault) => Err(StreamsFault::Write),
         }
     }
 }
@@ -185,7 +167,7 @@ fn put_report<W: Target>(
     first: Option<u64>,
     summary: &Summary,
     connection: &Connection,
-    report: &Report,
+    report: &Report<'_>,
 ) -> Result<(), SinkFault> {
     match form {
         ExchangeForm::Lines(style) => put_line(writer, known, style, first, connection, report),

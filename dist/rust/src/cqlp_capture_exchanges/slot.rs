@@ -7,7 +7,7 @@ use crate::cqlp_capture_exchanges::report::{ConnectionEnd, is_unread};
 use crate::cqlp_capture_exchanges::reporter::Reporter;
 use crate::cqlp_capture_streams::StreamsFault;
 use crate::cqlp_note::Target;
-use crate::cqlp_observer::{Kept, Missed, Opening, Paired, Unread, Watch, WatchRoom, WatchStep};
+use crate::cqlp_observer::{Kept, Missed, Opening, Paired, Unread, Watch, WatchRoom};
 use crate::cqlp_tcp_connections::{Delivery, Way};
 use crate::cqlp_tcp_reassembly::StreamStep;
 use crate::kit_std::alloc::{AllocError};
@@ -167,22 +167,31 @@ fn hear_bytes<O: Target>(
         bytes,
     } = piece;
     let mut unread = Unread::new(bytes, begins);
+    let mut reported = None;
     while unread.steps > 0 {
-        let Ok(step) = watch.take(responses, unread.bytes, time, unread.begins, room) else {
+        let Ok(step) = watch.take_into(
+            responses,
+            unread.bytes,
+            time,
+            unread.begins,
+            room,
+            &mut reported,
+        ) else {
             return Err(StreamsFault::NoMemory);
         };
-        let WatchStep {
-            used,
-            is_done,
-            opening,
-            reported,
-        } = step;
-        report_step(reporter, connection, time, *is_reported, opening, reported)?;
-        *is_reported = is_reported_after(*is_reported, opening);
-        if is_done {
+        report_step(
+            reporter,
+            connection,
+            time,
+            *is_reported,
+            step.opening,
+            &mut reported,
+        )?;
+        *is_reported = is_reported_after(*is_reported, step.opening);
+        if step.is_done {
             return Ok(());
         }
-        unread = unread.after(used);
+        unread = unread.after(step.used);
     }
     Ok(())
 }
@@ -194,7 +203,7 @@ fn report_step<O: Target>(
     time: Option<u64>,
     was_reported: bool,
     opening: Opening,
-    exchange: Option<Paired<Kept>>,
+    exchange: &mut Option<Paired<Kept>>,
 ) -> Result<(), StreamsFault> {
     match reporter.report_opening(connection, time, was_reported, opening) {
         Ok(()) => reporter.report_messages(connection, None, exchange),
@@ -218,7 +227,7 @@ fn hear_gap<O: Target>(
     reporter: &mut Reporter<O>,
 ) -> Result<(), StreamsFault> {
     match watch.gap(responses, length, time, room) {
-        Ok(exchange) => reporter.report_messages(connection, None, exchange),
+        Ok(mut exchange) => reporter.report_messages(connection, None, &mut exchange),
         Err(AllocError) => Err(StreamsFault::NoMemory),
     }
 }
@@ -245,7 +254,7 @@ fn end_direction<O: Target>(
     reporter: &mut Reporter<O>,
 ) -> Result<(), StreamsFault> {
     match watch.end(responses, room) {
-        Ok(exchange) => reporter.report_messages(connection, None, exchange),
+        Ok(mut exchange) => reporter.report_messages(connection, None, &mut exchange),
         Err(AllocError) => Err(StreamsFault::NoMemory),
     }
 }
@@ -258,7 +267,7 @@ fn let_go<O: Target>(
     reporter: &mut Reporter<O>,
 ) -> Result<(), StreamsFault> {
     while let Some(exchange) = watch.finish() {
-        reporter.report_messages(connection, Some(end), Some(exchange))?;
+        reporter.report_messages(connection, Some(end), &mut Some(exchange))?;
     }
     Ok(())
 }

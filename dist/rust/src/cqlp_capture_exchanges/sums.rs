@@ -32,7 +32,7 @@ impl ExchangeSums {
     }
 
     /// Counts what is reported.
-    pub(crate) fn count(&mut self, report: &Report) {
+    pub(crate) fn count(&mut self, report: &Report<'_>) {
         match report {
             Report::Messages { paired, .. } => self.count_paired(paired),
             Report::Unread { .. } => {}

@@ -31,6 +31,17 @@ pub struct Watch {
     missed: MissedRecord,
 }
 
+/// How much of a piece a call has used, beside what it reports.
+#[derive(Clone, Copy, Debug, PartialEq, Eq)]
+pub struct WatchProgress {
+    /// How many bytes of the piece were used.
+    pub used: usize,
+    /// Whether nothing more is reported of the piece, all of which was used.
+    pub is_done: bool,
+    /// What the direction begins with, where these are its first bytes; else `Frames`.
+    pub opening: Opening,
+}
+
 /// What the first so many bytes of a piece report.
 pub struct WatchStep {
     /// How many bytes of the piece were used.
@@ -87,12 +98,38 @@ impl Watch {
         begins: bool,
         room: WatchRoom,
     ) -> Result<WatchStep, AllocError> {
+        let mut reported = None;
+        let progress = self.take_into(responses, piece, time, begins, room, &mut reported)?;
+        Ok(WatchStep {
+            used: progress.used,
+            is_done: progress.is_done,
+            opening: progress.opening,
+            reported,
+        })
+    }
+
+    /// What the next bytes of a direction report, as `take` says it. It is put in place of what `reported` has, and not moved: it has some 500 bytes.
+    ///
+    /// # Errors
+    ///
+    /// Memory that is refused.
+    #[cfg_attr(not(feature = "cli"), inline)]
+    pub fn take_into(
+        &mut self,
+        responses: bool,
+        piece: &[u8],
+        time: Option<u64>,
+        begins: bool,
+        room: WatchRoom,
+        reported: &mut Option<Paired<Kept>>,
+    ) -> Result<WatchProgress, AllocError> {
+        *reported = None;
         if self.is_done(responses, piece) {
-            return Ok(WatchStep::done());
+            return Ok(WatchProgress::done());
         }
         let opening = self.opening(responses, piece);
         self.missed.count_opening(opening)?;
-        self.hear(responses, piece, time, begins, room, opening)
+        self.hear(responses, piece, time, begins, room, opening, reported)
     }
 
     /// So many bytes of a direction did not come, which passed at this time, where that is known.
@@ -179,19 +216,18 @@ impl Watch {
         begins: bool,
         room: WatchRoom,
         opening: Opening,
-    ) -> Result<WatchStep, AllocError> {
+        reported: &mut Option<Paired<Kept>>,
+    ) -> Result<WatchProgress, AllocError> {
         match self.whole_head(responses, piece) {
             Some(header) => {
-                let mut reported = None;
-                self.take_frame(responses, header, piece, time, room, &mut reported)?;
-                Ok(WatchStep {
+                self.take_frame(responses, header, piece, time, room, reported)?;
+                Ok(WatchProgress {
                     used: 9 + header.length as usize,
                     is_done: false,
                     opening,
-                    reported,
                 })
             }
-            None => self.hear_part(responses, piece, time, begins, room, opening),
+            None => self.hear_part(responses, piece, time, begins, room, opening, reported),
         }
     }
 
@@ -205,13 +241,15 @@ impl Watch {
         begins: bool,
         room: WatchRoom,
         opening: Opening,
-    ) -> Result<WatchStep, AllocError> {
+        reported: &mut Option<Paired<Kept>>,
+    ) -> Result<WatchProgress, AllocError> {
         let step = self.read(responses, piece, time, begins, room)?;
-        Ok(WatchStep {
-            used: step.used,
-            is_done: step.is_done,
+        let (used, is_done) = (step.used, step.is_done);
+        self.pair_into(step.message, room, reported)?;
+        Ok(WatchProgress {
+            used,
+            is_done,
             opening,
-            reported: self.pair(step.message, room)?,
         })
     }
 
@@ -314,19 +352,28 @@ impl Watch {
     }
 
     /// Pairs a message that has ended, if one has.
-    #[inline(never)]
+    #[cfg_attr(not(feature = "cli"), inline)]
     fn pair(
         &mut self,
         message: Option<SeenMessage<Kept>>,
         room: WatchRoom,
     ) -> Result<Option<Paired<Kept>>, AllocError> {
+        let mut reported = None;
+        self.pair_into(message, room, &mut reported)?;
+        Ok(reported)
+    }
+
+    /// Pairs a message that has ended, if one has. What is reported is written where nothing is yet.
+    #[inline(never)]
+    fn pair_into(
+        &mut self,
+        message: Option<SeenMessage<Kept>>,
+        room: WatchRoom,
+        reported: &mut Option<Paired<Kept>>,
+    ) -> Result<(), AllocError> {
         match message {
-            Some(message) => {
-                let mut reported = None;
-                self.pair_one(message, room, &mut reported)?;
-                Ok(reported)
-            }
-            None => Ok(None),
+            Some(message) => self.pair_one(message, room, reported),
+            None => Ok(()),
         }
     }
 
@@ -404,15 +451,14 @@ fn bare_if(is_bare: bool, message: SeenMessage<Kept>) -> SeenMessage<Kept> {
     }
 }
 
-impl WatchStep {
+impl WatchProgress {
     /// Nothing is reported of no bytes.
     #[inline(always)]
     fn done() -> Self {
-        WatchStep {
+        WatchProgress {
             used: 0,
             is_done: true,
             opening: Opening::Frames,
-            reported: None,
         }
     }
 }
