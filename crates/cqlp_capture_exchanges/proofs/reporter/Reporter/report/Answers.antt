@@ -1,6 +1,0 @@
-use Rattle.cqlp_capture_exchanges.specs.Reports.{report_of}
-use Rattle.cqlp_capture_exchanges.proofs.Accounts.{stops_one}
-use Rattle.cqlp_capture_exchanges.proofs.reporter.Reporter.report.Goals as goal
-
-pub returns-in-Err : goal.returns-in-Err
-returns-in-Err g c = λ known. stops_one c.args.connection.now (report_of c.args.report) c.args.self.now c.take_report.new.self (c.in-Err.ensures known)
