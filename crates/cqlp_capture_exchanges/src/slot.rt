@@ -1,6 +1,6 @@
 //! One connection that is watched.
 
-ghost use Rattle.std.specs.Prelude.{◌≡◌, ◌||◌, ◌++◌, IfOk, IsSome, None, OnOk, false};
+ghost use Rattle.std.specs.Prelude.{◌≡◌, ◌||◌, ◌++◌, IfOk, IsSome, None, OnOk, Some, false};
 ghost use Rattle.cqlp_capture_exchanges.specs.Accounts.{ReportedAll};
 ghost use Rattle.cqlp_capture_exchanges.specs.Connections.{of_delivery};
 ghost use Rattle.cqlp_capture_exchanges.specs.Reports.{is_unread, messages, unread};
@@ -329,7 +329,20 @@ fn let_go<O: Target, A: Allocator + Clone>(
     ensures { ReportedAll connection.now (remaining end watch.old.waiting) reporter.old result reporter.new }
 {
     while let Some(exchange) = watch.finish() {
-        reporter.report_messages(connection, Some(end), &mut Some(exchange))?;
+        report_last(reporter, connection, end, exchange)?;
     }
     Ok(())
+}
+
+/// Reports messages that waited, of a connection that ended so.
+fn report_last<O: Target, A: Allocator>(
+    reporter: &mut Reporter<O, A>,
+    connection: &Connection,
+    end: ConnectionEnd,
+    exchange: Paired<Kept<A>>,
+) -> Result<(), StreamsFault>
+    ensures { ReportedAll connection.now (messages (Some end) (Some exchange)) reporter.old result reporter.new }
+{
+    let mut waited = Some(exchange);
+    reporter.report_messages(connection, Some(end), &mut waited)
 }

@@ -723,7 +723,7 @@ pub mod capture {
 pub mod watch {
     pub use crate::cqlp_observer::{
         Extent, Heads, Heard, HeardStep, Kept, LONGEST_FRONT, Missed, Opening, Paired, Pairing, SeenFrame, SeenMessage, Watch, WatchRoom,
-        WatchStep,
+        WatchProgress, WatchStep,
     };
     pub use crate::cqlp_observer_facts::{Facts, FactsReader};
 }

@@ -340,7 +340,11 @@ fn is_saying(
 }
 
 /// Whether the text of a request's statement has a match of the pattern that is asked for.
-fn is_matching(asked: &Option<Pattern>, known: &Known, report: &Report<'_>) -> bool {
+fn is_matching(
+    asked: &Option<Pattern>,
+    known: &Known,
+    report: &Report<'_>,
+) -> bool {
     match asked {
         Some(pattern) => has_match(pattern, reported_statement(known, report)),
         None => true,

@@ -10,7 +10,11 @@ use crate::cqlp_note::Target;
 use crate::cqlp_text::{Buffered, TextWriter};
 
 /// Counts the request of a report, if it has one.
-pub(crate) fn note_by_time(summary: &mut Summary, report: &Report<'_>) {
+pub(crate) fn note_by_time(
+    summary: &mut Summary,
+    report: &Report<'_>,
+)
+{
     match outcome_in(report) {
         Some(outcome) => note_outcome(summary, &outcome),
         None => {}

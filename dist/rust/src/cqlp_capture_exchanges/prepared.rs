@@ -101,7 +101,8 @@ impl Known {
             Some(Paired::Exchange { request, response }) => {
                 add_known(&mut self.prepared, Preparation { request, response });
             }
-            Some(Paired::Unanswered { .. } | Paired::Unasked { .. } | Paired::Event { .. }) | None => {}
+            Some(Paired::Unanswered { .. } | Paired::Unasked { .. } | Paired::Event { .. })
+            | None => {}
         }
     }
 

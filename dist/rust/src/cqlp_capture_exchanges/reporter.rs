@@ -75,7 +75,11 @@ impl<O: Target> Reporter<O> {
     }
 
     /// Takes a report of this connection.
-    fn take_report(&mut self, connection: &Connection, report: &Report<'_>) -> Result<(), SinkFault> {
+    fn take_report(
+        &mut self,
+        connection: &Connection,
+        report: &Report<'_>,
+    ) -> Result<(), SinkFault> {
         self.sums.count(report);
         if self
             .filter

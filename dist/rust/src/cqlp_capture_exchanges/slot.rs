@@ -267,7 +267,18 @@ fn let_go<O: Target>(
     reporter: &mut Reporter<O>,
 ) -> Result<(), StreamsFault> {
     while let Some(exchange) = watch.finish() {
-        reporter.report_messages(connection, Some(end), &mut Some(exchange))?;
+        report_last(reporter, connection, end, exchange)?;
     }
     Ok(())
+}
+
+/// Reports messages that waited, of a connection that ended so.
+fn report_last<O: Target>(
+    reporter: &mut Reporter<O>,
+    connection: &Connection,
+    end: ConnectionEnd,
+    exchange: Paired<Kept>,
+) -> Result<(), StreamsFault> {
+    let mut waited = Some(exchange);
+    reporter.report_messages(connection, Some(end), &mut waited)
 }

@@ -25,10 +25,10 @@ loop-exchange-preserved g c = λ known.
     let ts = messages (Some c.args.end) (Some exchange) in
     let later = talk (remaining c.args.end v.waiting) new_slot in
     let is : rest ≡ next false ts new_slot later = ap (λ (z : List Report). talk z new_slot) (go_next c.args.end w v exchange e) in
-    hearing_goes_on n start c.loop-exchange.reporter c.report_messages.new.self whole rest later false ts new_slot held is refl (c.in_ok-report_messages.ensures (hearing_known n start c.loop-exchange.reporter whole rest held known))
+    hearing_goes_on n start c.loop-exchange.reporter c.report_last.new.reporter whole rest later false ts new_slot held is refl (c.in_ok-report_last.ensures (hearing_known n start c.loop-exchange.reporter whole rest held known))
 
-pub returns-in_err-report_messages : goal.returns-in_err-report_messages
-returns-in_err-report_messages g c = λ known.
+pub returns-in_err-report_last : goal.returns-in_err-report_last
+returns-in_err-report_last g c = λ known.
     let n = c.args.connection.now in
     let start = c.args.reporter.now in
     let w = c.loop-exchange.watch in
@@ -42,7 +42,7 @@ returns-in_err-report_messages g c = λ known.
     let later = talk (remaining c.args.end v.waiting) new_slot in
     let is : rest ≡ next false ts new_slot later = ap (λ (z : List Report). talk z new_slot) (go_next c.args.end w v exchange e) in
     let p = err_from_is_err_and c.from_residual.result c.from_residual.ensures.1 in
-    rw (p.1, p.2) (hearing_stops n start c.loop-exchange.reporter c.report_messages.new.self whole rest later false ts new_slot _ held is (c.in_err-report_messages.ensures (hearing_known n start c.loop-exchange.reporter whole rest held known)))
+    rw (p.1, p.2) (hearing_stops n start c.loop-exchange.reporter c.report_last.new.reporter whole rest later false ts new_slot _ held is (c.in_err-report_last.ensures (hearing_known n start c.loop-exchange.reporter whole rest held known)))
 
 pub returns : goal.returns
 returns g c = λ known.
