@@ -108,7 +108,7 @@ impl Watch {
         })
     }
 
-    /// What the next bytes of a direction report, as `take` says it. It is put in place of what `reported` has, and not moved: it has some 500 bytes.
+    /// What the next bytes of a direction report, as `take` says it. It is put where `reported` is, in place of what is there, and is not moved.
     ///
     /// # Errors
     ///
