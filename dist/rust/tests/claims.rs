@@ -12,7 +12,7 @@ use cqlp::columns::{BatchLimits, Columns, PageColumns};
 use cqlp::frame::{BuildLimits, Composer, Frame, FrameBuilder, append, encode};
 use cqlp::session::{Client, ClientOf, RequestKind, Server, ServerOf};
 use cqlp::text::{render_events, render_rows};
-use cqlp::watch::{Watch, WatchRoom, WatchStep};
+use cqlp::watch::{Watch, WatchRoom};
 use cqlp::{Decoder, Event, Fed, Header, IoFault, Kind, Limits, Opcode, Sink, SinkFault, SkippingDecoder, Source, Step, Target, run};
 
 /// What a thread asked for: how often, how many bytes in all, and how many are held.
@@ -374,9 +374,14 @@ fn observers() {
             for responses in [false, true, false] {
                 watch.begin(responses, true);
                 let mut rest = &stream[..];
+                let mut reported = None;
                 for time in 0..1_000 {
-                    let WatchStep { used, .. } = watch.take(responses, rest, Some(time), time == 0, WatchRoom::ONE).unwrap();
-                    let most = 2_048 * (watch.waiting() as i64 + 2);
+                    let used = if time % 2 == 0 {
+                        watch.take_into(responses, rest, Some(time), time == 0, WatchRoom::ONE, &mut reported).unwrap().used
+                    } else {
+                        watch.take(responses, rest, Some(time), false, WatchRoom::ONE).unwrap().used
+                    };
+                    let most = 2_048 * (watch.waiting() as i64 + 4);
                     assert!(asked_so_far().held <= most, "{stream:x?} {:?}", asked_so_far());
                     rest = &rest[used..];
                 }
