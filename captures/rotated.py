@@ -8,6 +8,7 @@ import re
 import subprocess
 import sys
 import threading
+import time
 from pathlib import Path
 
 PORTS = ['--port', '36401', '--port', '40971']
@@ -181,6 +182,8 @@ def growing(program, data, room):
         with subprocess.Popen([program, 'capture', *PORTS, '--follow', path], stdin=subprocess.PIPE, stdout=subprocess.PIPE, stderr=subprocess.PIPE) as live:
             early = b''
             for at, name in enumerate(parts):
+                # Of two files that were written within one tick of the system's clock the one goes first whose name does.
+                time.sleep(.02)
                 part = b''.join(records[at * count:(at + 1) * count if at < 3 else None])
                 with open(folder / name, 'ab') as file:
                     file.write((b'' if name.startswith('..') else capture[:HEADER]) + part[:-9])
