@@ -16,6 +16,8 @@ kinds=("${@:2}")
 room=$(mktemp -d)
 trap 'rm -rf "$room"' EXIT
 export CARGO_TARGET_DIR=$here/../dist/out/rust
+# As dist/release compiles it.
+[ "$(uname -m)" != x86_64 ] || export RUSTFLAGS="${RUSTFLAGS:-} -C target-feature=+crt-static -C llvm-args=-x86-branches-within-32B-boundaries"
 (cd "$here/../dist/rust" && cargo build --offline --profile dist --features cli --bin cqlp --example streams)
 programs=("${CQLP:-$CARGO_TARGET_DIR/dist/cqlp}" "${CQLP_PROVED:-$here/../crates/cqlp/out/cqlp}")
 [ -x "${programs[1]}" ] || unset 'programs[1]'
