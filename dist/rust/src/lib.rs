@@ -722,8 +722,8 @@ pub mod capture {
 /// and a [`Pairing`](watch::Pairing) pairs messages of which anything is kept. `examples/proxy` of this package is made of these.
 pub mod watch {
     pub use crate::cqlp_observer::{
-        Extent, Heads, Heard, HeardStep, Kept, LONGEST_FRONT, Missed, Opening, Paired, Pairing, SeenFrame, SeenMessage, Watch, WatchRoom,
-        WatchProgress, WatchStep,
+        Extent, Heads, Heard, HeardStep, Kept, LONGEST_FRONT, Missed, Opening, Paired, Pairing, SeenFrame, SeenMessage, Watch,
+        WatchProgress, WatchRoom, WatchStep,
     };
     pub use crate::cqlp_observer_facts::{Facts, FactsReader};
 }
