@@ -2,7 +2,6 @@ pub mod Accounts
 pub mod Causes
 pub mod Heard
 pub mod Known
-pub mod Learned
 pub mod Ends
 mod Fields
 mod Labels

@@ -18,14 +18,14 @@ pub(crate) fn put_fields<P: Pen>(
 {
     for value in values {
         writer.put(b",")?;
-        put_field(writer, *value)?;
+        put_field(writer, value)?;
     }
     Ok(())
 }
 
 /// Takes a value as JSON has it, but for texts; and nothing where there is none.
-fn put_field<P: Pen>(writer: &mut TextWriter<P>, value: Value<'_>) -> Result<(), SinkFault>
-    ensures { Writes writer.old (field_text value.entry) result writer.new }
+fn put_field<P: Pen>(writer: &mut TextWriter<P>, value: &Value<'_>) -> Result<(), SinkFault>
+    ensures { Writes writer.old (field_text value.now) result writer.new }
 {
     match value {
         Value::Null => writer.put(b""),

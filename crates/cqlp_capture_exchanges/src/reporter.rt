@@ -192,6 +192,7 @@ impl<O: Target, A: Allocator> Reporter<O, A> {
         }
     }
 
+    /// Reports that a connection is not read, whose direction begins so at this time.
     fn report_unread(
         &mut self,
         connection: &Connection,

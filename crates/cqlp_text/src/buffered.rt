@@ -73,6 +73,7 @@ impl<W: Target, A: Allocator> Buffered<W, A> {
     }
 
     /// Takes a text after what waits was passed on.
+    #[cold]
     #[inline(never)]
     fn put_afresh(&mut self, bytes: &[u8]) -> Result<(), SinkFault>
         ensures { Writes self.old bytes.now result self.new }
@@ -96,6 +97,7 @@ impl<W: Target, A: Allocator> Buffered<W, A> {
     }
 
     /// Takes a number as decimal digits after what waits was passed on.
+    #[cold]
     #[inline(never)]
     fn put_number_afresh(&mut self, number: u64) -> Result<(), SinkFault>
         ensures { Writes self.old (decimal number) result self.new }
@@ -105,6 +107,7 @@ impl<W: Target, A: Allocator> Buffered<W, A> {
     }
 
     /// Takes this many digits of a number after what waits was passed on.
+    #[cold]
     #[inline(never)]
     fn put_digits_afresh(&mut self, count: usize, number: u64) -> Result<(), SinkFault>
         requires { count ≤ 128 }

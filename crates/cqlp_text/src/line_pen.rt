@@ -60,6 +60,7 @@ impl<'a, W: Target> LinePen<'a, W> {
     }
 
     /// Takes a text after what waits was passed on.
+    #[cold]
     #[inline(never)]
     fn put_afresh(&mut self, bytes: &[u8]) -> Result<(), SinkFault>
         ensures { Writes self.old bytes.now result self.new }

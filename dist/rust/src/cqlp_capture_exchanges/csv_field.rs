@@ -13,13 +13,13 @@ pub(crate) fn put_fields<P: Pen>(
 ) -> Result<(), SinkFault> {
     for value in values {
         writer.put(b",")?;
-        put_field(writer, *value)?;
+        put_field(writer, value)?;
     }
     Ok(())
 }
 
 /// Takes a value as JSON has it, but for texts; and nothing where there is none.
-fn put_field<P: Pen>(writer: &mut TextWriter<P>, value: Value<'_>) -> Result<(), SinkFault> {
+fn put_field<P: Pen>(writer: &mut TextWriter<P>, value: &Value<'_>) -> Result<(), SinkFault> {
     match value {
         Value::Null => writer.put(b""),
         Value::Text(text) => put_text_field(writer, text),

@@ -128,16 +128,16 @@ pub(crate) fn put_members<P: Pen>(
 ) -> Result<(), SinkFault> {
     for member in members {
         writer.put_str(member.0)?;
-        put_value(writer, member.1)?;
+        put_value(writer, &member.1)?;
     }
     Ok(())
 }
 
-/// Takes a value.
+/// Takes a value. It is large, and stays where it is, here and below.
 #[inline(always)]
 pub(crate) fn put_value<P: Pen>(
     writer: &mut TextWriter<P>,
-    value: Value<'_>,
+    value: &Value<'_>,
 ) -> Result<(), SinkFault> {
     match value {
         Value::Null => writer.put(b"null"),
@@ -149,19 +149,19 @@ pub(crate) fn put_value<P: Pen>(
 
 /// The same, out of line: most values are null or a flag.
 #[inline(never)]
-fn put_any_value<P: Pen>(writer: &mut TextWriter<P>, value: Value<'_>) -> Result<(), SinkFault> {
+fn put_any_value<P: Pen>(writer: &mut TextWriter<P>, value: &Value<'_>) -> Result<(), SinkFault> {
     match value {
         Value::Null => writer.put(b"null"),
-        Value::Flag(flag) => writer.put_str(boolean_text(flag)),
-        Value::Number(number) => put_big(writer, number),
-        Value::Signed(number) => writer.put_signed(i64::from(number)),
-        Value::Seconds(span) => put_seconds(writer, span),
-        Value::Utc(time) => put_utc(writer, time),
-        Value::End(end) => put_end_value(writer, end),
+        Value::Flag(flag) => writer.put_str(boolean_text(*flag)),
+        Value::Number(number) => put_big(writer, *number),
+        Value::Signed(number) => writer.put_signed(i64::from(*number)),
+        Value::Seconds(span) => put_seconds(writer, *span),
+        Value::Utc(time) => put_utc(writer, *time),
+        Value::End(end) => put_end_value(writer, *end),
         Value::Name(name) => put_word(name, writer),
         Value::Text(text) => put_string(text, writer),
         Value::Hex(bytes) => put_bytes(bytes, writer),
-        Value::Uuid(id) => put_id(writer, id),
+        Value::Uuid(id) => put_id(writer, *id),
     }
 }
 

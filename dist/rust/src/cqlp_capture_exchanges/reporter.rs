@@ -150,6 +150,7 @@ impl<O: Target> Reporter<O> {
         }
     }
 
+    /// Reports that a connection is not read, whose direction begins so at this time.
     fn report_unread(
         &mut self,
         connection: &Connection,

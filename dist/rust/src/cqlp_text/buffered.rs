@@ -49,6 +49,7 @@ impl<W: Target> Buffered<W> {
     }
 
     /// Takes a text after what waits was passed on.
+    #[cold]
     #[inline(never)]
     fn put_afresh(&mut self, bytes: &[u8]) -> Result<(), SinkFault> {
         self.flush()?;
@@ -67,6 +68,7 @@ impl<W: Target> Buffered<W> {
     }
 
     /// Takes a number as decimal digits after what waits was passed on.
+    #[cold]
     #[inline(never)]
     fn put_number_afresh(&mut self, number: u64) -> Result<(), SinkFault> {
         let mut room = crate::itoa::Buffer::new();
@@ -74,6 +76,7 @@ impl<W: Target> Buffered<W> {
     }
 
     /// Takes this many digits of a number after what waits was passed on.
+    #[cold]
     #[inline(never)]
     fn put_digits_afresh(&mut self, count: usize, number: u64) -> Result<(), SinkFault> {
         let mut room = [0; 128];
