@@ -182,7 +182,7 @@ def growing(program, data, room):
         with subprocess.Popen([program, 'capture', *PORTS, '--follow', path], stdin=subprocess.PIPE, stdout=subprocess.PIPE, stderr=subprocess.PIPE) as live:
             early = b''
             for at, name in enumerate(parts):
-                # Of two files that were written within one tick of the system's clock the one goes first whose name does.
+                # Files that were written within one tick of the system's clock go by their names.
                 time.sleep(.02)
                 part = b''.join(records[at * count:(at + 1) * count if at < 3 else None])
                 with open(folder / name, 'ab') as file:
@@ -200,6 +200,21 @@ def growing(program, data, room):
         got = ran(program, [room / path], '--follow') if path == 'none' else emptied(program, room / path)
         if got != (3, '', f'cqlp: cannot open {room / path}\n'):
             print(f'{path}: {got}')
+
+
+def at_once(program, data, room):
+    """Captures of a folder that were written at once go by their numbers, as tcpdump's -C counts them, or else by their names."""
+    capture = (data / 'driver.pcap').read_bytes()
+    wanted = ran(program, [data / 'driver.pcap'], '--order', '0')[1]
+    for names in ([f'cap.pcap{at or ""}' for at in range(13)], [f'cap_{at:05}.pcap' for at in range(13)]):
+        folder = room / names[1]
+        for file, name in zip(split(capture, [2] * 12, folder), names):
+            file.rename(folder / name)
+            os.utime(folder / name, (1_700_000_000, 1_700_000_000))
+        with subprocess.Popen([program, 'capture', *PORTS, '--follow', folder], stdin=subprocess.PIPE, stdout=subprocess.PIPE, stderr=subprocess.PIPE) as live:
+            got, said = live.communicate(timeout=60)
+        if got.decode() != wanted or b' MoreFiles 12' not in said:
+            print(f'{names[1]}: {got} {said}')
 
 
 def emptied(program, folder):

@@ -37,10 +37,12 @@ impl Found {
         self.name.get(..self.length).unwrap_or(&[])
     }
 
-    /// Which of two was written before the other; of two at once, by their names.
+    /// Which of two was written before the other; of two at once the one with the shorter name, as `cap.pcap9` before `cap.pcap10`, or else by their
+    /// names.
     fn cmp(&self, other: &Found) -> Ordering {
         self.written
             .cmp(&other.written)
+            .then_with(|| self.length.cmp(&other.length))
             .then_with(|| self.name().cmp(other.name()))
     }
 }
