@@ -130,6 +130,8 @@ impl<O: Target, A: Allocator + Clone> Exchanges<O, A> {
         self.reporter.note_time(time);
     }
 
+    #[cold]
+    #[inline(never)]
     fn begin(&mut self, number: u64) -> Result<(), StreamsFault>
         ensures { Hears self.old (New number) result self.new }
     {
@@ -139,12 +141,16 @@ impl<O: Target, A: Allocator + Clone> Exchanges<O, A> {
         }
     }
 
+    /// Takes what a direction delivers, out of line: of most packets the time alone is noted first.
+    #[inline(never)]
     fn hear_delivery(&mut self, delivered: &Delivery, bytes: &[u8]) -> Result<(), StreamsFault>
         ensures { IsSome self.old.account.output.given → Hears self.old (Of delivered.now bytes.now) result self.new }
     {
         (self.table).hear(self.present, delivered, bytes, &mut self.reporter)
     }
 
+    #[cold]
+    #[inline(never)]
     fn let_leave(&mut self, totals: &ConnectionTotals) -> Result<(), StreamsFault>
         ensures { IsSome self.old.account.output.given → Hears self.old (Left totals.now) result self.new }
     {

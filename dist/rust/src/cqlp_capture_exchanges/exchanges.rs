@@ -95,6 +95,8 @@ impl<O: Target> Exchanges<O> {
         self.reporter.note_time(time);
     }
 
+    #[cold]
+    #[inline(never)]
     fn begin(&mut self, number: u64) -> Result<(), StreamsFault> {
         match self.table.begin(number) {
             Ok(()) => Ok(()),
@@ -102,10 +104,14 @@ impl<O: Target> Exchanges<O> {
         }
     }
 
+    /// Takes what a direction delivers, out of line: of most packets the time alone is noted first.
+    #[inline(never)]
     fn hear_delivery(&mut self, delivered: &Delivery, bytes: &[u8]) -> Result<(), StreamsFault> {
         (self.table).hear(self.present, delivered, bytes, &mut self.reporter)
     }
 
+    #[cold]
+    #[inline(never)]
     fn let_leave(&mut self, totals: &ConnectionTotals) -> Result<(), StreamsFault> {
         self.table.leave(totals, &mut self.reporter)
     }
