@@ -217,6 +217,26 @@ def at_once(program, data, room):
             print(f'{names[1]}: {got} {said}')
 
 
+def belated(program, data, room):
+    """A capture that was written at once with the last one, and comes into the folder after that was read, is read whatever its name, and none is read again."""
+    capture, folder = (data / 'driver.pcap').read_bytes(), room / 'belated'
+    files = split(capture, [len(packets(capture)) // 4] * 3, room / 'apart')
+    firsts = [ran(program, files[:at + 1], '--order', '0')[1] for at in range(4)]
+    counts = [lines.count('\n') - lines.count('-> nothing') for lines in firsts]
+    folder.mkdir()
+    with subprocess.Popen([program, 'capture', *PORTS, '--follow', folder], stdin=subprocess.PIPE, stdout=subprocess.PIPE, stderr=subprocess.PIPE) as live:
+        early, watchdog = [], threading.Timer(30, live.kill)
+        watchdog.start()
+        for path, name, count in zip(files, ('c.pcap', 'b.pcap', 'bb.pcap', 'a.pcap'), counts):
+            os.utime(path, (1_700_000_000, 1_700_000_000))
+            path.rename(folder / name)
+            early += [live.stdout.readline() for _ in range(count - len(early))]
+        got, said = live.communicate()
+        watchdog.cancel()
+    if b''.join(early) + got != firsts[3].encode() or b' MoreFiles 3' not in said:
+        print(f'{early} {got} {said}')
+
+
 def emptied(program, folder):
     """What is said of a folder without captures, of which none comes before standard input ends."""
     done = subprocess.run([program, 'capture', '--follow', folder], input=b'', capture_output=True, timeout=60)

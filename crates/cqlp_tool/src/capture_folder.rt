@@ -13,7 +13,7 @@ const NAME: usize = 255;
 /// How many bytes a path has at most.
 const PATH: usize = 4_096;
 
-/// How many files are found at once.
+/// How many files are found at once, and how many that were taken are remembered.
 const FOUND: usize = 32;
 
 /// How many reads of the folder's names are made at most.
@@ -53,8 +53,8 @@ pub(crate) struct CaptureFolder<'a, R: Files> {
     folder: &'a str,
     /// The next files, in order.
     found: [Option<Found>; FOUND],
-    /// The file that was taken last.
-    last: Option<Found>,
+    /// The files that were taken last, the last one first.
+    taken: [Option<Found>; FOUND],
     path: [u8; PATH],
     /// How long the path of the last file is.
     length: usize,
@@ -67,7 +67,7 @@ impl<'a, R: Files> CaptureFolder<'a, R> {
             rt,
             folder,
             found: [None; FOUND],
-            last: None,
+            taken: [None; FOUND],
             path: [0; PATH],
             length: 0,
         }
@@ -79,7 +79,7 @@ impl<'a, R: Files> CaptureFolder<'a, R> {
         str::from_utf8(path).unwrap_or("")
     }
 
-    /// Whether there is a file that was written after the one that was taken last.
+    /// Whether there is a file that comes after the one that was taken last.
     pub fn has_next(&mut self) -> io::Result<bool> {
         if self.found[0].is_none() {
             self.look()?;
@@ -97,15 +97,16 @@ impl<'a, R: Files> CaptureFolder<'a, R> {
         };
         self.found.copy_within(1.., 0);
         self.found[FOUND - 1] = None;
-        self.last = Some(next);
+        self.taken.copy_within(..FOUND - 1, 1);
+        self.taken[0] = Some(next);
         self.length = put_path(&mut self.path, self.folder, next.name()).unwrap_or(0);
         File::open(self.rt, self.path()).map(Some)
     }
 
     /// Finds the next files.
     fn look(&mut self) -> io::Result<()> {
-        if let Some(last) = self.last {
-            self.last = self.dated(last.name()).or(Some(last));
+        if let Some(last) = self.taken[0] {
+            self.taken[0] = self.dated(last.name()).or(Some(last));
         }
         let mut names = self.rt.open_dir(self.folder)?;
         let mut room = [0; PATH];
@@ -122,7 +123,7 @@ impl<'a, R: Files> CaptureFolder<'a, R> {
         Err(Error::from(ErrorKind::Other))
     }
 
-    /// Has the file of this name among the next ones, if it is a capture that was written after the last one.
+    /// Has the file of this name among the next ones, if it is a capture that was not taken.
     fn consider(&mut self, name: &[u8]) {
         if !is_of_capture(name) {
             return;
@@ -130,12 +131,7 @@ impl<'a, R: Files> CaptureFolder<'a, R> {
         let Some(file) = self.dated(name) else {
             return;
         };
-        // The last one may be written between two looks at it.
-        let is_taken = match &self.last {
-            Some(last) => file.name() == last.name() || file.cmp(last) != Ordering::Greater,
-            None => false,
-        };
-        if !is_taken {
+        if !is_taken(&self.taken, &file) {
             self.insert(file);
         }
     }
@@ -171,6 +167,29 @@ impl<'a, R: Files> CaptureFolder<'a, R> {
                 mem::swap(&mut left, place);
             }
         }
+    }
+}
+
+/// Whether a file was taken, after these, the last one first: it is one of them, which may be written between two looks at it, or was written before the
+/// last. Of files that were written at once more may have been taken than are remembered: those that come before the last one then count as taken.
+fn is_taken(taken: &[Option<Found>; FOUND], file: &Found) -> bool {
+    let Some(last) = taken[0] else {
+        return false;
+    };
+    for one in taken {
+        match one {
+            Some(one) if one.name() == file.name() => return true,
+            Some(_) | None => {}
+        }
+    }
+    let are_remembered = match taken[FOUND - 1] {
+        Some(oldest) => oldest.written < last.written,
+        None => true,
+    };
+    match file.written.cmp(&last.written) {
+        Ordering::Less => true,
+        Ordering::Equal => !are_remembered && file.cmp(&last) == Ordering::Less,
+        Ordering::Greater => false,
     }
 }
 
