@@ -42,11 +42,15 @@ fn put_in_field<P: Pen>(writer: &mut TextWriter<P>, c: char) -> Result<(), SinkF
     }
 }
 
-/// Whether each byte is written as it is.
+/// Whether each byte is written as it is. All are looked at, so that the compiler looks at many at once.
 fn are_plain(bytes: &[u8]) -> bool
     ensures { result ≡ list_all is_plain bytes.now }
 {
-    bytes.iter().all(|byte| is_plain(*byte))
+    let mut plain = true;
+    for byte in bytes {
+        plain &= is_plain(*byte);
+    }
+    plain
 }
 
 /// Whether a byte is a character that is not escaped.
