@@ -121,11 +121,6 @@ has_news known t = false
 abbrev pub known_from : Option (Paired Kept) → Known → Known
 known_from t known = if has_news known.prepared t then known_with t known else known
 
-abbrev pub known_by : Paired Kept → Known → Known
-known_by (Exchange q r) known =
-    if is_news known.prepared q r then known_of (with_one_more (preparation q r) known.prepared) known.given else known
-known_by t known = known
-
 abbrev pub known_after : Report → Known → Known
-known_after (Messages t end) known = known_by t known
+known_after (Messages t end) known = known_from (Some t) known
 known_after (Unread time o) known = known

@@ -95,6 +95,7 @@ impl<O: Target> Exchanges<O> {
         self.reporter.note_time(time);
     }
 
+    /// Takes memory for the connection with this number, which begins.
     #[cold]
     #[inline(never)]
     fn begin(&mut self, number: u64) -> Result<(), StreamsFault> {
@@ -110,6 +111,7 @@ impl<O: Target> Exchanges<O> {
         (self.table).hear(self.present, delivered, bytes, &mut self.reporter)
     }
 
+    /// Reports what waits of a connection that leaves, and gives its memory back.
     #[cold]
     #[inline(never)]
     fn let_leave(&mut self, totals: &ConnectionTotals) -> Result<(), StreamsFault> {
