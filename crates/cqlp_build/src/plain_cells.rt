@@ -1,6 +1,7 @@
 //! Plain cells of pages: scalars, nulls and empty values, each of which is one event.
 
-ghost use Rattle.std.specs.Prelude.{◌≡◌, ◌+◌, ◌*◌, ◌/◌, ◌%◌, ◌^◌, ◌<◌, ◌++◌, ◌∷◌, [], IsTrue, drop, length, map, true, vec_capacity, vec_len};
+ghost use Rattle.std.specs.Prelude.{◌≡◌, ◌+◌, ◌*◌, ◌/◌, ◌%◌, ◌^◌, ◌<◌, ◌++◌, ◌∷◌, [], IsTrue, drop, length, map, true};
+ghost use Rattle.std.specs.Prelude.{vec_capacity, vec_len};
 ghost use Rattle.cqlp_kind.specs.Contents.{value_of};
 ghost use Rattle.cqlp_kind.specs.Scalars.{Varchar};
 ghost use Rattle.cqlp_kind.specs.declared.kind.Kind.TheVariants as kind;
