@@ -74,6 +74,7 @@ class Programs:
         self.proved = os.environ.get('CQLP_PROVED') or next((str(it) for it in [TOP / 'crates/cqlp/out/cqlp'] if it.exists()), None)
         self.batches = [self.c(name, 'bindings/c/speed.c', os.environ.get(name)) for name in ('CQLP_LIBRARY', 'CQLP_LIBRARY_PROVED')]
         self.puts = [self.c(f'{name}.put', 'bench/put.c', os.environ.get(name)) for name in ('CQLP_LIBRARY', 'CQLP_LIBRARY_PROVED')]
+        self.columns = [self.c(f'{name}.columns', 'bench/columns.c', os.environ.get(name)) for name in ('CQLP_LIBRARY', 'CQLP_LIBRARY_PROVED')]
         self.events = self.c('events', 'bench/events.c', '')
         self.ways = {'checked': (self.encode, 'checked'), 'trusting': (self.encode, '')}
         self.ways.update({name: (self.pages, how) for name, how in (('encode', ''), ('append', 'append'), ('cells', 'cells'))})
@@ -122,6 +123,7 @@ def read_tables(programs, pages, rounds):
     for name in ('rows', 'collections', 'columns', 'blobs'):
         print_beside_hand(name, least(rounds, [lambda: spent([programs.check, pages[name]]), *programs.of_both('check', pages[name])]))
     batches_table(programs, pages, rounds)
+    columns_table(programs, pages, rounds)
     table('events written alone', '`cqlp check`', 'events of 72 bytes, decoding nothing')
     for name, many in EVENTS.items():
         print_times(name, least(rounds, [lambda: spent([programs.cqlp, 'check', '-'], pages[name]), programs.events and (lambda: spent([programs.events, str(many), '256']))]))
@@ -136,6 +138,15 @@ def batches_table(programs, pages, rounds):
         for room in ('256', '64'):
             of_both = [it and (lambda it=it: spent([it, room], page)) for it in programs.batches]
             print_beside_hand(f'{name}, {room}', least(rounds, [hand, *of_both]))
+
+
+def columns_table(programs, pages, rounds):
+    """The cells of a page, put into columns from C, 4,096 rows at a time."""
+    table('columns from C', 'cargo', 'proved', 'proved / cargo')
+    for name in ('rows', 'columns', 'kinds'):
+        cargo, proved = times = least(rounds, [it and (lambda it=it: spent([it], pages[name])) for it in programs.columns])
+        ratio = '-' if None in times else f'{proved / cargo:.2f}'
+        print(f'| {name} | {" | ".join(shown_times(times))} | {ratio} |', flush=True)
 
 
 def text_table(programs, pages, rounds):
@@ -198,7 +209,8 @@ def rows_table(programs, pages, rounds):
 def start_line(programs, rounds):
     frame = programs.room / 'options'
     frame.write_bytes(OPTIONS)
-    print(f"\n`cqlp show -` of nine bytes: {min(spent([programs.cqlp, 'show', '-'], frame) for _ in range(rounds)):.2f} ms")
+    times = least(10 * rounds, [it and (lambda it=it: spent([it, 'show', '-'], frame)) for it in (programs.cqlp, programs.proved)])
+    print(f"\n`cqlp show -` of nine bytes, cargo and proved: {', '.join('-' if it is None else f'{it:.2f} ms' for it in times)}")
 
 
 def main(rounds=15):
