@@ -1,11 +1,11 @@
-// Times gocql's Scan, and RowReader.Scan, into variables and into a struct, and ColumnReader of bindings/go, over the same page in memory, in turn:
-// gocql KIND FILE ROUNDS. It prints milliseconds of the processor for a million rows, the least of the rounds, the garbage collector's too.
-// bench/gocql.sh builds it.
+// Times gocql's Scan, and the readers of bindings/go, over the same page in memory, in turn: gocql KIND FILE ROUNDS. A line has the name of each, the rows that
+// it read, and the least milliseconds of the processor for a million rows, the garbage collector's too. bench/wrappers.py builds it.
 package main
 
 import (
 	"bytes"
 	"fmt"
+	"io"
 	"math"
 	"os"
 	"reflect"
@@ -25,11 +25,15 @@ type reader struct {
 	read func(page []byte, to []any, row func()) (int, error)
 }
 
+// compare takes the first two.
 var readers = []reader{
 	{"gocql's Scan", readByGocql},
 	{"Scan", readByScan},
-	{"ColumnReader", readByColumns},
 	{"Scan of a struct", readByStruct},
+	{"Values", readByValues},
+	{"ColumnReader", readByColumns},
+	{"Decode", readByDecode},
+	{"Next", readByNext},
 }
 
 func readByGocql(page []byte, to []any, row func()) (int, error) {
@@ -59,6 +63,70 @@ func readByScan(page []byte, to []any, row func()) (int, error) {
 		row()
 	}
 	return rows, r.Err()
+}
+
+// readByValues lets row alone: the values are in no variables.
+func readByValues(page []byte, _ []any, _ func()) (int, error) {
+	r, err := cqlp.NewRowReader(bytes.NewReader(page), cqlp.DefaultLimits())
+	if err != nil {
+		return 0, err
+	}
+	defer r.Close()
+	rows := 0
+	for ; r.Next(); rows++ {
+		r.Values()
+	}
+	return rows, r.Err()
+}
+
+// beginsRow says whether a row begins with an event.
+func beginsRow(e *cqlp.Event) bool {
+	return e.Tag >= cqlp.TagLeaf && e.Tag <= cqlp.TagEnter && e.Level == 0 && e.Column == 0
+}
+
+func readByDecode(page []byte, _ []any, _ func()) (int, error) {
+	d, err := cqlp.NewDecoder(cqlp.DefaultLimits())
+	if err != nil {
+		return 0, err
+	}
+	defer d.Close()
+	events := make([]cqlp.Event, 256)
+	rows := 0
+	for err == nil {
+		var count, n int
+		count, n, err = d.Decode(events, page)
+		page = page[n:]
+		for i := range events[:count] {
+			if beginsRow(&events[i]) {
+				rows++
+			}
+		}
+	}
+	if err == cqlp.ErrMore {
+		return rows, nil
+	}
+	return rows, err
+}
+
+func readByNext(page []byte, _ []any, _ func()) (int, error) {
+	r, err := cqlp.NewReader(bytes.NewReader(page), cqlp.DefaultLimits())
+	if err != nil {
+		return 0, err
+	}
+	defer r.Close()
+	rows := 0
+	for {
+		e, err := r.Next()
+		if err == io.EOF {
+			return rows, nil
+		}
+		if err != nil {
+			return rows, err
+		}
+		if beginsRow(&e) {
+			rows++
+		}
+	}
 }
 
 // readByColumns lets row alone: it has the values of a batch at once.
@@ -179,11 +247,9 @@ func main() {
 			least[i] = math.Min(least[i], timed(r, kind, page, rows))
 		}
 	}
-	fmt.Printf("%s: %s %.0f ms for a million rows", kind, readers[0].name, least[0])
-	for i, r := range readers[1:] {
-		if spent := least[i+1]; !math.IsInf(spent, 1) {
-			fmt.Printf(", %s %.0f, %.2f times as fast", r.name, spent, least[0]/spent)
+	for i, r := range readers {
+		if !math.IsInf(least[i], 1) {
+			fmt.Printf("%s\t%d\t%f\n", r.name, rows, least[i])
 		}
 	}
-	fmt.Println()
 }

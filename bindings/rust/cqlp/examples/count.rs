@@ -1,4 +1,4 @@
-//! Times the reading of a file of frames, for bench/bindings.sh: cargo run --release --example count FILE
+//! Times the reading of a file of frames: cargo run --release --example count FILE
 
 use cqlp::{check, Decoder, Limits, Stop};
 use std::error::Error;
