@@ -1,8 +1,8 @@
 #!/usr/bin/env python3
 """Times the program, the library for C and the encoder beside programs by hand, all in one run: ratios.py [ROUNDS]
 
-The programs of each line run in turn, ROUNDS times (15); a time is that of the processor, the least of them, and a ratio is the time of
-what is by hand to that of ours, so that over 1 is faster than by hand. For batches what is by hand puts the same events. The program is both what
+The programs of each line run in turn, ROUNDS times (15), those that only read three times as often; a time is that of the processor, the least of them,
+and a ratio is the time of what is by hand to that of ours, so that over 1 is faster than by hand. For batches what is by hand puts the same events. The program is both what
 cargo compiles over dist/rust, or $CQLP, and the proved one, which `./prove` builds, or $CQLP_PROVED. So is the library for C: that of cargo is $CQLP_LIBRARY,
 and the proved one $CQLP_LIBRARY_PROVED; bindings/build makes bindings/out/libcqlp.a of either. `-` marks what is not on this machine.
 """
@@ -218,7 +218,7 @@ def main(rounds=15):
         programs = Programs(pathlib.Path(room))
         print(f'{programs.cqlp} and {programs.proved or "no proved program"}, the least of {rounds} runs in turn')
         pages = {name: programs.page(name) for name in PAGES}
-        read_tables(programs, pages, int(rounds))
+        read_tables(programs, pages, 3 * int(rounds))
         rows_table(programs, pages, int(rounds))
         text_table(programs, pages, int(rounds))
         encode_table(programs, int(rounds))
