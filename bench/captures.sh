@@ -29,19 +29,19 @@ spend() {
     shift
     rm -rf "$room/flows"
     mkdir "$room/flows"
-    (cd "$room/flows" && /usr/bin/time -a -o "$spent" -f '%U %S %M' "$@" >/dev/null 2>&1) || true
+    (cd "$room/flows" && "$here/spend.py" "$spent" "$@")
 }
 
 # Prints the least of the times in a file, and leaves it in another one.
 print_least() {
     local name=$1 spent=$2
-    grep -E '^[0-9.]+ [0-9.]+ [0-9]+$' "$spent" | awk -v name="$name" -v bytes="$(stat -c %s "$room/capture")" -v least="$3" '
-        NR == 1 || $1 + $2 < best { best = $1 + $2 }
-        $3 > most { most = $3 }
+    awk -v name="$name" -v bytes="$(stat -c %s "$room/capture")" -v least="$3" '
+        NR == 1 || $1 < best { best = $1 }
+        $2 > most { most = $2 }
         END {
-            printf "  %s: %d ms of the processor, %d MB/s, %.1f MiB resident\n", name, best * 1000, bytes / (best + 0.000001) / 1e6, most / 1024
+            printf "  %s: %.1f ms of the processor, %d MB/s, %.1f MiB resident\n", name, best, bytes / best / 1e3, most / 1024
             print best >least
-        }'
+        }' "$spent"
 }
 
 # Runs a command so many times.
@@ -55,12 +55,12 @@ measure() {
     print_least "$name" "$room/spent" "$room/best"
 }
 
-# Runs `cqlp capture` with these words of each program, five times in turn.
+# Runs `cqlp capture` with these words of each program, nine times in turn.
 measure_both() {
     local name=$1 run at
     shift
     rm -f "$room"/spent.* "$room"/best.*
-    for run in 1 2 3 4 5; do
+    for run in {1..9}; do
         for at in "${!programs[@]}"; do
             spend "$room/spent.$at" "${programs[at]}" capture "$@" "$room/capture"
         done
