@@ -55,12 +55,12 @@ measure() {
     print_least "$name" "$room/spent" "$room/best"
 }
 
-# Runs `cqlp capture` with these words of each program, nine times in turn.
+# Runs `cqlp capture` with these words of each program, ROUNDS times (9) in turn.
 measure_both() {
     local name=$1 run at
     shift
     rm -f "$room"/spent.* "$room"/best.*
-    for run in {1..9}; do
+    for ((run = ${ROUNDS:-9}; run > 0; run--)); do
         for at in "${!programs[@]}"; do
             spend "$room/spent.$at" "${programs[at]}" capture "$@" "$room/capture"
         done
