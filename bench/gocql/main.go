@@ -50,6 +50,15 @@ func readByGocql(page []byte, to []any, row func()) (int, error) {
 }
 
 func readByScan(page []byte, to []any, row func()) (int, error) {
+	return readRows(page, func(r *cqlp.RowReader) error {
+		err := r.Scan(to...)
+		row()
+		return err
+	})
+}
+
+// readRows calls a function at each row, and says how many there were.
+func readRows(page []byte, each func(*cqlp.RowReader) error) (int, error) {
 	r, err := cqlp.NewRowReader(bytes.NewReader(page), cqlp.DefaultLimits())
 	if err != nil {
 		return 0, err
@@ -57,26 +66,19 @@ func readByScan(page []byte, to []any, row func()) (int, error) {
 	defer r.Close()
 	rows := 0
 	for ; r.Next(); rows++ {
-		if err := r.Scan(to...); err != nil {
+		if err := each(r); err != nil {
 			return 0, err
 		}
-		row()
 	}
 	return rows, r.Err()
 }
 
 // readByValues lets row alone: the values are in no variables.
 func readByValues(page []byte, _ []any, _ func()) (int, error) {
-	r, err := cqlp.NewRowReader(bytes.NewReader(page), cqlp.DefaultLimits())
-	if err != nil {
-		return 0, err
-	}
-	defer r.Close()
-	rows := 0
-	for ; r.Next(); rows++ {
+	return readRows(page, func(r *cqlp.RowReader) error {
 		r.Values()
-	}
-	return rows, r.Err()
+		return nil
+	})
 }
 
 // beginsRow says whether a row begins with an event.
