@@ -280,8 +280,9 @@ fn hear_gap<O: Target, A: Allocator + Clone>(
     ensures reports { ReportedAll connection.now (messages None (after_gap responses length time room watch.old).reported) reporter.old result reporter.new }
     ensures after { IsSome reporter.old.output.given → OnOk result (watch.new ≡ (after_gap responses length time room watch.old).after) }
 {
-    match watch.gap(responses, length, time, room) {
-        Ok(mut exchange) => reporter.report_messages(connection, None, &mut exchange),
+    let mut exchange = None;
+    match watch.gap_into(responses, length, time, room, &mut exchange) {
+        Ok(()) => reporter.report_messages(connection, None, &mut exchange),
         Err(AllocError) => Err(StreamsFault::NoMemory),
     }
 }

@@ -10,6 +10,7 @@ mod Literals
 mod Merges
 mod Names
 mod Orders
+mod Padded
 mod Ranks
 mod Sums
 mod Roomy

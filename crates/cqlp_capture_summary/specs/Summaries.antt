@@ -25,6 +25,10 @@ summary statements names weights tallies others =
 abbrev pub new_summary : (statements : ℕ) → Summary
 new_summary n = summary n [] [] (replicate n none_counted) none_counted
 
+-- the tallies of all places, where these are those of the places that are taken
+abbrev pub padded : (places : ℕ) → List Tally → List Tally
+padded n ts = ts ++ replicate (n - length ts) none_counted
+
 -- ---- the place of a statement
 
 -- the first place of the least weight, from this place on, where this one is the best so far

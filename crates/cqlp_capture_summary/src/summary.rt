@@ -1,6 +1,6 @@
 //! The statements of a capture.
 
-ghost use Rattle.std.specs.Prelude.{◌≡◌, ◌==◌, ◌+◌, ◌<◌, ◌≤◌, IfOk, IfSome, MatchOption, None, Some, length, replicate, vec_capacity};
+ghost use Rattle.std.specs.Prelude.{◌≡◌, ◌==◌, ◌+◌, ◌<◌, ◌≤◌, IfOk, IfSome, MatchOption, None, Some, [], ◌∷◌, length, vec_capacity};
 ghost use Rattle.std.specs.List.{position};
 ghost use Rattle.cqlp_text.specs.Written.{Writes};
 ghost use Rattle.cqlp_capture_summary.specs.Lines.{summary_text};
@@ -31,7 +31,7 @@ pub struct Summary<A: Allocator = Global> {
     names: Vec<Name, A>,
     /// The most nanoseconds that each of these may have taken.
     weights: Vec<u64, A>,
-    /// One for each place.
+    /// One for each place that is taken: memory for those that are free is not touched.
     tallies: Vec<Tally, A>,
     /// One, of all other statements.
     others: Vec<Tally, A>,
@@ -50,16 +50,16 @@ const RECENT: usize = 256;
 impl<A: Allocator> Model for Summary<A> {
     ghost use Rattle.std.specs.Prelude.{◌≡◌, ◌≤◌, length, slice_index_or, vec_capacity};
     ghost use Rattle.cqlp_capture_summary.specs.Names.{AreApart};
-    ghost use Rattle.cqlp_capture_summary.specs.Summaries.{Summary, summary};
+    ghost use Rattle.cqlp_capture_summary.specs.Summaries.{Summary, padded, summary};
     ghost use Rattle.cqlp_capture_summary.specs.Tallies.{none_counted};
 
     ghost Value = { Summary };
 
-    ghost view = { λ s. summary s.statements s.names.items s.weights.items s.tallies.items (slice_index_or s.others.items 0 none_counted) };
+    ghost view = { λ s. summary s.statements s.names.items s.weights.items (padded s.statements s.tallies.items) (slice_index_or s.others.items 0 none_counted) };
 
     ghost invariant = { λ s. (length s.names.items ≤ s.statements) × (vec_capacity s.names ≡ s.statements)
         × (length s.weights.items ≡ length s.names.items) × (vec_capacity s.weights ≡ s.statements)
-        × (length s.tallies.items ≡ s.statements) × (vec_capacity s.tallies ≡ s.statements)
+        × (length s.tallies.items ≡ length s.names.items) × (vec_capacity s.tallies ≡ s.statements)
         × (length s.others.items ≡ 1) × (vec_capacity s.others ≡ 1)
         × (length s.slots.items ≡ 1024) × AreApart s.names.items };
 }
@@ -85,8 +85,8 @@ impl<A: Allocator> Summary<A> {
             statements,
             names: Vec::with_capacity(alloc.clone()?, statements)?,
             weights: Vec::with_capacity(alloc.clone()?, statements)?,
-            tallies: make_tallies(alloc.clone()?, statements)?,
-            others: make_tallies(alloc.clone()?, 1)?,
+            tallies: Vec::with_capacity(alloc.clone()?, statements)?,
+            others: make_others(alloc.clone()?)?,
             slots: make_slots(alloc.clone()?)?,
             recent: make_recent(alloc, if statements == 0 { 0 } else { RECENT })?,
         })
@@ -148,7 +148,7 @@ impl<A: Allocator> Summary<A> {
         is_answered: bool,
         at: Option<u64>,
     )
-        requires { place < self.old.statements }
+        requires { place < length self.old.names }
         ensures { self.new ≡ with_request_at place (request_of occurrence.now is_answered at) self.old }
     {
         add_weight_at(&mut self.weights, place, time_of(occurrence.took));
@@ -159,7 +159,8 @@ impl<A: Allocator> Summary<A> {
     fn place_for(&mut self, name: Name) -> Option<usize>
         ensures place { result ≡ place_of name self.old }
         ensures names { self.new ≡ with_name name self.old }
-        ensures within { IfSome result (λ at. at < self.old.statements) }
+        ensures within { IfSome result (λ at. at < length self.new.names) }
+        ensures few { IfSome result (λ at. at < self.old.statements) }
     {
         match self.find(&name) {
             Some(at) => Some(at),
@@ -170,7 +171,8 @@ impl<A: Allocator> Summary<A> {
     /// The place of a statement that is in the table.
     fn find(&self, name: &Name) -> Option<usize>
         ensures position { result ≡ position (is_same name.now) self.now.names }
-        ensures within { IfSome result (λ at. at < self.now.statements) }
+        ensures within { IfSome result (λ at. at < length self.now.names) }
+        ensures few { IfSome result (λ at. at < self.now.statements) }
     {
         let seen = self.slots[name.slot()];
         if seen < self.names.len() && self.names[seen].is(name) {
@@ -184,7 +186,8 @@ impl<A: Allocator> Summary<A> {
         requires { position (is_same name) self.old.names ≡ None }
         ensures place { result ≡ new_place self.old }
         ensures names { self.new ≡ taken_in name self.old }
-        ensures within { IfSome result (λ at. at < self.old.statements) }
+        ensures within { IfSome result (λ at. at < length self.new.names) }
+        ensures few { IfSome result (λ at. at < self.old.statements) }
     {
         let place = self.names.len();
         if place < self.statements {
@@ -197,6 +200,7 @@ impl<A: Allocator> Summary<A> {
     }
 
     /// Takes a statement in at a free place.
+    #[tactic(auto, using(crate::proofs::Padded::padded_push))]
     fn push(&mut self, name: Name)
         requires room { length self.old.names < self.old.statements }
         requires absent { position (is_same name) self.old.names ≡ None }
@@ -204,6 +208,7 @@ impl<A: Allocator> Summary<A> {
     {
         self.names.push_reserved(name);
         self.weights.push_reserved(0);
+        self.tallies.push_reserved(Tally::new());
     }
 
     /// Takes a statement in at a place whose counts go to the others.
@@ -243,7 +248,7 @@ impl<A: Allocator> Summary<A> {
     }
 
     fn add_counts(&mut self, place: Option<usize>, counts: &Tally, most: u64, before: u64)
-        requires { IfSome place (λ at. at < self.old.statements) }
+        requires { IfSome place (λ at. at < length self.old.names) }
         ensures { self.new ≡ with_counts place counts.now most before self.old }
     {
         match place {
@@ -253,7 +258,7 @@ impl<A: Allocator> Summary<A> {
     }
 
     fn add_counts_at(&mut self, place: usize, counts: &Tally, most: u64, before: u64)
-        requires { place < self.old.statements }
+        requires { place < length self.old.names }
         ensures { self.new ≡ with_counts_at place counts.now most before self.old }
     {
         raise_weight_at(&mut self.weights, place, before, most);
@@ -374,16 +379,16 @@ impl<A: Allocator> Summary<A> {
     }
 
     /// Writes a line for each statement, the one that took most time in sum first, and a line for all others. Above the names is this heading.
+    #[tactic(auto, using(crate::proofs::Padded::padded_taken))]
     pub fn put<P: Pen>(&self, writer: &mut TextWriter<P>, heading: &str) -> Result<(), SinkFault>
         ensures { Writes writer.old (summary_text heading.now self.now) result writer.new }
     {
-        let known = &self.tallies[..self.names.len()];
         put_summary(
             writer,
             heading,
             &self.names,
             &self.weights,
-            known,
+            &self.tallies,
             &self.others[0],
         )
     }
@@ -415,13 +420,11 @@ fn make_recent<A: Allocator>(alloc: A, count: usize) -> Result<Vec<Recent, A>, A
     Ok(recent)
 }
 
-fn make_tallies<A: Allocator>(alloc: A, count: usize) -> Result<Vec<Tally, A>, AllocError>
-    ensures tallies { IfOk result (λ tallies. tallies.items ≡ replicate count none_counted) }
-    ensures capacity { IfOk result (λ tallies. vec_capacity tallies ≡ count) }
+fn make_others<A: Allocator>(alloc: A) -> Result<Vec<Tally, A>, AllocError>
+    ensures tallies { IfOk result (λ others. others.items ≡ none_counted ∷ []) }
+    ensures capacity { IfOk result (λ others. vec_capacity others ≡ 1) }
 {
-    let mut tallies = Vec::with_capacity(alloc, count)?;
-    for _ in 0..count {
-        tallies.push_reserved(Tally::new());
-    }
-    Ok(tallies)
+    let mut others = Vec::with_capacity(alloc, 1)?;
+    others.push_reserved(Tally::new());
+    Ok(others)
 }

@@ -88,6 +88,11 @@ passed_by used time stage.Between = stage.Between
 passed_by used time (stage.Header front at first) = stage.Header front at first
 passed_by used time (stage.Body f left) = stage.Body (record f { ended = time }) (left - used)
 
+-- Where the next frame begins is not known.
+abbrev pub is_lost : Stage → Bool
+is_lost stage.Lost = true
+is_lost g = false
+
 -- ---- the bytes of a piece
 
 abbrev pub heard_in : Stage → (time : Option ℕ) → (begins : Bool) → List ℕ → Heads → Steps
@@ -138,6 +143,21 @@ passed_frame h time s =
 
 abbrev pub holed : Frame → Frame
 holed f = record f { extent = Holed }
+
+-- so many bytes lie within a body, before its last one
+abbrev pub is_fewer : ℕ → Option ℕ → Bool
+is_fewer n None = false
+is_fewer n (Some left) = nat_lt n left
+
+abbrev pub is_within : ℕ → Stage → Bool
+is_within n g = is_fewer n (left_in g)
+
+-- These do not come.
+abbrev pub holed_by : ℕ → Stage → Stage
+holed_by n stage.Lost = stage.Lost
+holed_by n stage.Between = stage.Between
+holed_by n (stage.Header front at first) = stage.Header front at first
+holed_by n (stage.Body f left) = stage.Body (holed f) (left - n)
 
 -- If some of it is left, its last bytes lie in a gap, whose time is theirs, where that is known.
 abbrev pub passed_in : Frame → (left : ℕ) → (time : Option ℕ) → Frame

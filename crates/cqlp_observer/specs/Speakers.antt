@@ -1,5 +1,5 @@
 -- One side of a connection: the frames that it sends, each with the first bytes of its message and what that says.
-use Rattle.std.specs.Prelude.{ℕ, ◌+◌, ◌-◌, Bool, true, false, List, length, take, drop, nat_le, is_some, Option, Some, None, if◌then◌else◌}
+use Rattle.std.specs.Prelude.{ℕ, ◌+◌, Bool, true, false, List, length, take, drop, nat_le, is_some, Option, Some, None, if◌then◌else◌}
 use Rattle.cqlp_note.specs.declared.header.Header.{Header}
 use Rattle.cqlp_observer.specs.declared.heads.Heads.{Heads}
 use Rattle.cqlp_observer.specs.declared.heads.Heard.{Heard}
@@ -38,8 +38,8 @@ pub record Hears : Type 0 where
 abbrev pub says : ℕ → (is_done : Bool) → Option (Message Kept) → (is_bare : Bool) → Speaker → Hears
 says used is_done m is_bare s = record { used = used; is_done = is_done; message = m; is_bare = is_bare; after = s }
 
-abbrev pub hearing : {A : Type 0} → SideStep A → Speaker → Hears
-hearing step s = says step.used step.is_done step.message step.is_bare s
+abbrev pub hearing : SideStep → Option (Message Kept) → Speaker → Hears
+hearing step m s = says step.used step.is_done m step.is_bare s
 
 -- All of the body is in the piece: its frame ends with that.
 abbrev pub ends_at_once : Closes → Header → (body : List ℕ) → (end : ℕ) → Hears

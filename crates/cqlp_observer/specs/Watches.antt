@@ -188,8 +188,8 @@ pub record Reads : Type 0 where
 abbrev pub reads : ℕ → (is_done : Bool) → Option (Message Kept) → (is_bare : Bool) → Watched → Reads
 reads used is_done m is_bare w = record { used = used; is_done = is_done; message = m; is_bare = is_bare; after = w }
 
-abbrev pub reading : {A : Type 0} → SideStep A → Watched → Reads
-reading step w = reads step.used step.is_done step.message step.is_bare w
+abbrev pub reading : SideStep → Option (Message Kept) → Watched → Reads
+reading step m w = reads step.used step.is_done m step.is_bare w
 
 -- A message of which there is no room to keep more than the header is counted.
 abbrev pub with_bare : (is_bare : Bool) → Watched → Watched

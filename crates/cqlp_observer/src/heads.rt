@@ -1,6 +1,6 @@
 //! The frames of one direction, by their headers.
 
-ghost use Rattle.std.specs.Prelude.{◌≡◌, ◌≤◌, ◌<◌, Bool, if◌then◌else◌, length, take, IfSome, None, Some};
+ghost use Rattle.std.specs.Prelude.{◌≡◌, ◌≤◌, ◌<◌, Bool, false, if◌then◌else◌, length, take, IfSome, None, Some};
 ghost use Rattle.cqlp_observer.specs.Directions.{holed, passed_in, shortened};
 
 use crate::header_front::{HeaderFront, first_nine, read_head};
@@ -67,10 +67,11 @@ pub struct Heads {
 }
 
 impl Heads {
+    ghost use Rattle.std.specs.Prelude.{ℕ, Option, true};
     ghost use Rattle.cqlp_observer.specs.Heads.{head_within};
-    ghost use Rattle.cqlp_observer.specs.Openings.{is_between, opening_in};
+    ghost use Rattle.cqlp_observer.specs.Openings.{opening_in};
     ghost use Rattle.cqlp_observer.specs.Directions.{IsWholeHead, after_end, after_gap, anew, begun, closing, counted, ended_in, filled, heard};
-    ghost use Rattle.cqlp_observer.specs.Directions.{hears, left_in, passed_frame, passed_whole, sought, stepping};
+    ghost use Rattle.cqlp_observer.specs.Directions.{hears, is_over, is_within, left_in, passed_frame, passed_whole, sought, stepping};
 
     /// A direction of which nothing came: that of the responses, or that of the requests. Its first byte begins a frame, where `from_start`.
     #[must_use]
@@ -157,6 +158,37 @@ impl Heads {
         }
     }
 
+    /// Takes the bytes of the body that passes, and says how many these are, if more of it are to come and some are here.
+    #[inline(always)]
+    pub(crate) fn pass_body(&mut self, piece: &[u8], time: Option<u64>) -> Option<usize>
+        ensures passed { IfSome result (λ used. (begins : Bool) →
+            stepping (record { used = used; heard = Heard.Body }) self.new ≡ heard time begins piece.now self.old) }
+        ensures within { IfSome result (λ used. used ≤ length piece.now) }
+        ensures none { result ≡ None → self.new ≡ self.old }
+    {
+        match self.stage.left() {
+            Some(left) if left > 0 && !piece.is_empty() => Some(self.pass_some(left, piece, time)),
+            _ => None,
+        }
+    }
+
+    /// Takes bytes that are all stray, and says whether these are: where no frame is known to begin, and they do not begin a segment with a header.
+    #[inline(always)]
+    pub(crate) fn pass_stray(&mut self, piece: &[u8], begins: bool) -> bool
+        ensures passed { result ≡ true → (time : Option ℕ) →
+            stepping (record { used = length piece.now; heard = Heard.Stray }) self.new ≡ heard time begins piece.now self.old }
+        ensures none { result ≡ false → self.new ≡ self.old }
+    {
+        if piece.is_empty()
+            || !self.stage.is_lost()
+            || self.head_at_begin(piece, begins).is_some()
+        {
+            return false;
+        }
+        self.count(piece.len() as u64);
+        true
+    }
+
     /// The header of the frame that lies whole in these bytes from the first on, if it is between two frames and one does.
     #[inline(always)]
     pub(crate) fn whole_head(&self, piece: &[u8]) -> Option<Header>
@@ -194,12 +226,12 @@ impl Heads {
         }
     }
 
-    /// Whether it is between two frames.
+    /// Whether a frame ends of which nothing more comes.
     #[inline(always)]
-    pub(crate) fn is_between(&self) -> bool
-        ensures { result ≡ is_between self.now.stage }
+    pub(crate) fn is_over(&self) -> bool
+        ensures { result ≡ is_over self.now.stage }
     {
-        self.stage.is_between()
+        matches!(self.stage.left(), Some(0))
     }
 
     /// What these bytes are that come next, if none came before.
@@ -218,16 +250,28 @@ impl Heads {
     pub fn gap(&mut self, length: u64, time: Option<u64>) -> Option<Frame>
         ensures { closing result self.new ≡ after_gap length time self.old }
     {
-        self.count(length);
-        match self.stage.take() {
-            Stage::Body { frame, left } if length < left as u64 => {
-                let left = left - length as u32;
-                self.stage = StageRecord::new(Stage::Body {
-                    frame: holed(frame),
-                    left,
-                });
+        match self.stage.left() {
+            Some(left) if length < left as u64 => {
+                self.count(length);
+                self.stage.hole(length as u32);
                 None
             }
+            None if self.stage.is_lost() => {
+                self.count(length);
+                None
+            }
+            _ => self.gap_past(length, time),
+        }
+    }
+
+    /// So many bytes did not come, that do not lie within a body before its last one.
+    #[inline(never)]
+    fn gap_past(&mut self, length: u64, time: Option<u64>) -> Option<Frame>
+        requires { is_within length self.old.stage ≡ false }
+        ensures { closing result self.new ≡ after_gap length time self.old }
+    {
+        self.count(length);
+        match self.stage.take() {
             Stage::Body { frame, left } => {
                 let is_end = length == left as u64;
                 let stage = if is_end { Stage::Between } else { Stage::Lost };
@@ -294,8 +338,8 @@ impl Heads {
     fn head_at_begin(&self, piece: &[u8], begins: bool) -> Option<Header>
         ensures { result ≡ (if begins then head_within self.now.responses (take 9 piece.now) else None) }
     {
-        if begins {
-            HeaderFront::new().with(piece).head(self.responses)
+        if begins && piece.len() >= 9 {
+            read_head(first_nine(piece), self.responses)
         } else {
             None
         }
@@ -393,13 +437,24 @@ impl Heads {
                 heard: Heard::More,
             };
         }
+        HeardStep {
+            used: self.pass_some(left, piece, time),
+            heard: Heard::Body,
+        }
+    }
+
+    /// Takes some bytes of a body, of which so many are still to come.
+    #[inline(always)]
+    fn pass_some(&mut self, left: u32, piece: &[u8], time: Option<u64>) -> usize
+        requires is { left_in self.old.stage ≡ Some left }
+        requires some { (0 < left) × (0 < length piece.now) }
+        ensures passed { (begins : Bool) → stepping (record { used = result; heard = Heard.Body }) self.new ≡ heard time begins piece.now self.old }
+        ensures within { result ≤ length piece.now }
+    {
         let used = piece.len().min(left as usize);
         self.count(used as u64);
         self.stage.pass(used as u32, time);
-        HeardStep {
-            used,
-            heard: Heard::Body,
-        }
+        used
     }
 
     #[inline(always)]

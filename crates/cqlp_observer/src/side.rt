@@ -36,13 +36,12 @@ pub(crate) struct Present<A: Allocator> {
     is_sound: bool,
 }
 
-/// What the first so many bytes of a piece say.
-#[derive(Drop)]
-pub(crate) struct SideStep<A: Allocator> {
+/// What the first so many bytes of a piece say, beside the message that ends with them.
+#[derive(Clone, Copy)]
+pub(crate) struct SideStep {
     pub(crate) used: usize,
     /// Whether nothing more is said by the piece.
     pub(crate) is_done: bool,
-    pub(crate) message: Option<Message<Kept<A>>>,
     /// Whether a message begins of which there is no room to keep more than the header.
     pub(crate) is_bare: bool,
 }
@@ -151,7 +150,8 @@ impl<A: Allocator> Model for Side<A> {
 }
 
 impl<A: Allocator + Clone> Side<A> {
-    ghost use Rattle.cqlp_observer.specs.Openings.{is_between, opening_in};
+    ghost use Rattle.cqlp_observer.specs.Directions.{is_over};
+    ghost use Rattle.cqlp_observer.specs.Openings.{opening_in};
     ghost use Rattle.cqlp_observer.specs.Passing.{begun_with, broken_if, kept_in, read_on, read_on_if};
     ghost use Rattle.cqlp_observer.specs.Speakers.{after_end, after_frame, after_gap, begins, closed, ending, ends_at_once};
     ghost use Rattle.cqlp_observer.specs.Speakers.{heard, hearing, is_keeping, silent, speaker};
@@ -183,12 +183,12 @@ impl<A: Allocator + Clone> Side<A> {
         self.present.is_some()
     }
 
-    /// Whether it is between two frames.
+    /// Whether a frame ends of which nothing more comes.
     #[inline(always)]
-    pub(crate) fn is_between(&self) -> bool
-        ensures { result ≡ is_between self.now.heads.stage }
+    pub(crate) fn is_over(&self) -> bool
+        ensures { result ≡ is_over self.now.heads.stage }
     {
-        self.heads.is_between()
+        self.heads.is_over()
     }
 
     /// What these bytes are that come next, if none came before.
@@ -200,27 +200,57 @@ impl<A: Allocator + Clone> Side<A> {
     }
 
     /// What the next bytes say that came at this time. Of a frame that begins and does not end in the piece more than the header is kept, where
-    /// `has_room`.
+    /// `has_room`. The message that ends with them, if one does, is written where none is yet: it is large, and seldom ends in a piece.
     pub(crate) fn read(
         &mut self,
         piece: &[u8],
         time: Option<u64>,
         begins: bool,
         has_room: bool,
-    ) -> Result<SideStep<A>, AllocError>
-        ensures step { IfOk result (λ step. hearing step self.new ≡ heard time begins piece.now has_room self.old) }
+        message: &mut Option<Message<Kept<A>>>,
+    ) -> Result<SideStep, AllocError>
+        requires { message.old ≡ None }
+        ensures step { IfOk result (λ step. hearing step message.new self.new ≡ heard time begins piece.now has_room self.old) }
+        ensures within { IfOk result (λ step. step.used ≤ length piece.now) }
+    {
+        if let Some(used) = self.heads.pass_body(piece, time) {
+            self.keep(&piece[..used])?;
+            return Ok(SideStep::to(used));
+        }
+        if self.heads.pass_stray(piece, begins) {
+            return Ok(SideStep::to(piece.len()));
+        }
+        self.read_head(piece, time, begins, has_room, message)
+    }
+
+    /// What the next bytes say, as `read` says it. It is for those that are neither of a body nor all stray: what these are is large, and would be in
+    /// memory also where it is not needed.
+    #[inline(never)]
+    fn read_head(
+        &mut self,
+        piece: &[u8],
+        time: Option<u64>,
+        begins: bool,
+        has_room: bool,
+        message: &mut Option<Message<Kept<A>>>,
+    ) -> Result<SideStep, AllocError>
+        requires { message.old ≡ None }
+        ensures step { IfOk result (λ step. hearing step message.new self.new ≡ heard time begins piece.now has_room self.old) }
         ensures within { IfOk result (λ step. step.used ≤ length piece.now) }
     {
         let step = self.heads.take(piece, time, begins);
         let used = step.used;
         match step.heard {
-            Heard::Begins(header) => self.begin(&header, used, time, piece, has_room),
+            Heard::Begins(header) => self.begin(&header, used, time, piece, has_room, message),
             Heard::Body => {
                 self.keep(&piece[..used])?;
-                Ok(SideStep::nothing(used))
+                Ok(SideStep::to(used))
             }
-            Heard::Ends(frame) => Ok(SideStep::of(used, Some(self.finish(frame)?))),
-            Heard::Stray => Ok(SideStep::nothing(used)),
+            Heard::Ends(frame) => {
+                *message = Some(self.finish(frame)?);
+                Ok(SideStep::to(used))
+            }
+            Heard::Stray => Ok(SideStep::to(used)),
             Heard::More => Ok(SideStep::done(used)),
         }
     }
@@ -251,19 +281,22 @@ impl<A: Allocator + Clone> Side<A> {
         Ok(Message { frame, kept })
     }
 
-    /// So many bytes did not come, which passed at this time, where that is known: the frame that ends there.
+    /// So many bytes did not come, which passed at this time, where that is known. The message that ends there, if one does, is written where none is
+    /// yet.
     pub(crate) fn gap(
         &mut self,
         length: u64,
         time: Option<u64>,
-    ) -> Result<Option<Message<Kept<A>>>, AllocError>
-        ensures { IfOk result (λ message. ending message self.new ≡ after_gap length time self.old) }
+        message: &mut Option<Message<Kept<A>>>,
+    ) -> Result<(), AllocError>
+        requires { message.old ≡ None }
+        ensures { IfOk result (λ _. ending message.new self.new ≡ after_gap length time self.old) }
     {
         self.break_off();
-        match self.heads.gap(length, time) {
-            Some(frame) => Ok(Some(self.finish(frame)?)),
-            None => Ok(None),
+        if let Some(frame) = self.heads.gap(length, time) {
+            *message = Some(self.finish(frame)?);
         }
+        Ok(())
     }
 
     /// No more bytes come: the frame of which some did.
@@ -285,15 +318,18 @@ impl<A: Allocator + Clone> Side<A> {
         time: Option<u64>,
         piece: &[u8],
         has_room: bool,
-    ) -> Result<SideStep<A>, AllocError>
-        requires { used ≤ length piece.now }
-        ensures step { IfOk result (λ step. hearing step self.new ≡ begins header.now used time self.old.heads (drop used piece.now) has_room) }
+        message: &mut Option<Message<Kept<A>>>,
+    ) -> Result<SideStep, AllocError>
+        requires within { used ≤ length piece.now }
+        requires none { message.old ≡ None }
+        ensures step { IfOk result (λ step. hearing step message.new self.new
+            ≡ begins header.now used time self.old.heads (drop used piece.now) has_room) }
         ensures within { IfOk result (λ step. step.used ≤ length piece.now) }
     {
         let length = header.length as usize;
         if length <= piece.len() - used {
             let end = used + length;
-            return self.take_whole(header, end, time, &piece[used..end]);
+            return self.take_whole(header, end, time, &piece[used..end], message);
         }
         if !has_room {
             self.present = None;
@@ -301,7 +337,7 @@ impl<A: Allocator + Clone> Side<A> {
         }
         let present = Present::new(self.alloc.clone()?, header)?;
         self.present = Some(Box::new(self.alloc.clone()?, present)?);
-        Ok(SideStep::nothing(used))
+        Ok(SideStep::to(used))
     }
 
     /// All of a body that has begun is there, which ends after so many bytes of the piece: its frame ends.
@@ -312,17 +348,19 @@ impl<A: Allocator + Clone> Side<A> {
         end: usize,
         time: Option<u64>,
         body: &[u8],
-    ) -> Result<SideStep<A>, AllocError>
-        ensures step { IfOk result (λ step. hearing step self.new ≡ ends_at_once (passed_whole time self.old.heads) header.now body.now end) }
+        message: &mut Option<Message<Kept<A>>>,
+    ) -> Result<SideStep, AllocError>
+        requires { message.old ≡ None }
+        ensures step { IfOk result (λ step. hearing step message.new self.new
+            ≡ ends_at_once (passed_whole time self.old.heads) header.now body.now end) }
         ensures within { IfOk result (λ step. step.used ≡ end) }
     {
         self.present = None;
         let kept = self.kept_of_whole(*header, body)?;
-        let message = match self.heads.pass_whole(time) {
-            Some(frame) => Some(Message { frame, kept }),
-            None => None,
-        };
-        Ok(SideStep::of(end, message))
+        if let Some(frame) = self.heads.pass_whole(time) {
+            *message = Some(Message { frame, kept });
+        }
+        Ok(SideStep::to(end))
     }
 
     /// What is kept of a message with this header and body.
@@ -371,16 +409,15 @@ impl<A: Allocator + Clone> Side<A> {
     }
 }
 
-impl<A: Allocator> SideStep<A> {
-    /// No message in so many bytes.
+impl SideStep {
+    /// So many bytes, which may not be all.
     #[inline(always)]
-    fn nothing(used: usize) -> Self
-        ensures { result ≡ record { used = used; is_done = false; message = None; is_bare = false } }
+    fn to(used: usize) -> Self
+        ensures { result ≡ record { used = used; is_done = false; is_bare = false } }
     {
         SideStep {
             used,
             is_done: false,
-            message: None,
             is_bare: false,
         }
     }
@@ -388,12 +425,11 @@ impl<A: Allocator> SideStep<A> {
     /// Nothing more is said by the piece.
     #[inline(always)]
     fn done(used: usize) -> Self
-        ensures { result ≡ record { used = used; is_done = true; message = None; is_bare = false } }
+        ensures { result ≡ record { used = used; is_done = true; is_bare = false } }
     {
         SideStep {
             used,
             is_done: true,
-            message: None,
             is_bare: false,
         }
     }
@@ -401,26 +437,12 @@ impl<A: Allocator> SideStep<A> {
     /// A message begins after so many bytes of which there is no room to keep more than the header.
     #[inline(always)]
     fn bare(used: usize) -> Self
-        ensures { result ≡ record { used = used; is_done = false; message = None; is_bare = true } }
+        ensures { result ≡ record { used = used; is_done = false; is_bare = true } }
     {
         SideStep {
             used,
             is_done: false,
-            message: None,
             is_bare: true,
-        }
-    }
-
-    /// A message that ended after so many bytes, if one did.
-    #[inline(always)]
-    fn of(used: usize, message: Option<Message<Kept<A>>>) -> Self
-        ensures { result ≡ record { used = used; is_done = false; message = message; is_bare = false } }
-    {
-        SideStep {
-            used,
-            is_done: false,
-            message,
-            is_bare: false,
         }
     }
 }

@@ -61,7 +61,7 @@ impl Model for StageRecord {
 
 impl StageRecord {
     ghost use Rattle.cqlp_observer.specs.declared.heads.Stage.TheVariants as stage;
-    ghost use Rattle.cqlp_observer.specs.Directions.{left_in, passed_by};
+    ghost use Rattle.cqlp_observer.specs.Directions.{holed_by, is_lost, left_in, passed_by};
     ghost use Rattle.cqlp_observer.specs.Openings.{is_between};
 
     #[inline(always)]
@@ -118,6 +118,24 @@ impl StageRecord {
             passing.is_ended_known = is_known;
             passing.left = passing.left.saturating_sub(used);
         }
+    }
+
+    /// So many bytes do not come of the body that passes, before its last one.
+    #[inline(always)]
+    pub(crate) fn hole(&mut self, length: u32)
+        ensures { self.new ≡ holed_by length self.old }
+    {
+        if let StageParts::Body { passing } = &mut self.parts {
+            passing.extent = Extent::Holed;
+            passing.left = passing.left.saturating_sub(length);
+        }
+    }
+
+    #[inline(always)]
+    pub(crate) fn is_lost(&self) -> bool
+        ensures { result ≡ is_lost self.now }
+    {
+        matches!(self.parts, StageParts::Lost)
     }
 
     #[inline(always)]

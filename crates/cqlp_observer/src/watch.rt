@@ -177,15 +177,41 @@ impl<A: Allocator + Clone> Watch<A> {
     ) -> Result<Option<Paired<Kept<A>>>, AllocError>
         ensures { IfOk result (λ reported. report_then reported self.new ≡ after_gap responses length time room self.old) }
     {
+        let mut reported = None;
+        self.gap_into(responses, length, time, room, &mut reported)?;
+        Ok(reported)
+    }
+
+    /// So many bytes of a direction did not come, as `gap` says it. What is reported is put where `reported` is, in place of what is there, and is not
+    /// moved.
+    ///
+    /// # Errors
+    ///
+    /// Memory that is refused.
+    pub fn gap_into(
+        &mut self,
+        responses: bool,
+        length: u64,
+        time: Option<u64>,
+        room: WatchRoom,
+        reported: &mut Option<Paired<Kept<A>>>,
+    ) -> Result<(), AllocError>
+        ensures { IfOk result (λ _. report_then reported.new self.new ≡ after_gap responses length time room self.old) }
+    {
+        *reported = None;
         self.missed.count_gap()?;
         let was_keeping = self.is_keeping(responses);
-        let message = if responses {
-            self.responses.gap(length, time)?
+        let mut message = None;
+        if responses {
+            self.responses.gap(length, time, &mut message)?;
         } else {
-            self.requests.gap(length, time)?
-        };
+            self.requests.gap(length, time, &mut message)?;
+        }
         self.recount(responses, room, was_keeping);
-        self.pair(message, room)
+        match message {
+            Some(message) => self.pair_into(message, room, reported),
+            None => Ok(()),
+        }
     }
 
     /// No more bytes of a direction come.
@@ -287,12 +313,14 @@ impl<A: Allocator + Clone> Watch<A> {
             ≡ heard_by opening (read responses time begins piece.now room self.old) room) }
         ensures within { IfOk result (λ step. step.used ≤ length piece.now) }
     {
-        let step = self.read(responses, piece, time, begins, room)?;
-        let (used, is_done) = (step.used, step.is_done);
-        self.pair_into(step.message, room, reported)?;
+        let mut message = None;
+        let step = self.read(responses, piece, time, begins, room, &mut message)?;
+        if let Some(message) = message {
+            self.pair_into(message, room, reported)?;
+        }
         Ok(WatchProgress {
-            used,
-            is_done,
+            used: step.used,
+            is_done: step.is_done,
             opening,
         })
     }
@@ -336,16 +364,16 @@ impl<A: Allocator + Clone> Watch<A> {
         self.pair_one(message, room, reported)
     }
 
-    /// Whether these are no bytes, and the direction is between two frames: then nothing more is reported.
+    /// Whether these are no bytes, and no frame of the direction ends: then nothing more is reported.
     #[inline(always)]
     fn is_done(&self, responses: bool, piece: &[u8]) -> bool
         ensures { result ≡ has_nothing responses piece.now self.now }
     {
         piece.is_empty()
             && if responses {
-                self.responses.is_between()
+                !self.responses.is_over()
             } else {
-                self.requests.is_between()
+                !self.requests.is_over()
             }
     }
 
@@ -386,7 +414,7 @@ impl<A: Allocator + Clone> Watch<A> {
         );
     }
 
-    /// What the next bytes of a direction say.
+    /// What the next bytes of a direction say. The message that ends with them is written where none is yet.
     #[inline(always)]
     fn read(
         &mut self,
@@ -395,16 +423,18 @@ impl<A: Allocator + Clone> Watch<A> {
         time: Option<u64>,
         begins: bool,
         room: WatchRoom,
-    ) -> Result<SideStep<A>, AllocError>
-        ensures step { IfOk result (λ step. reading step self.new ≡ read responses time begins piece.now room self.old) }
+        message: &mut Option<Message<Kept<A>>>,
+    ) -> Result<SideStep, AllocError>
+        requires { message.old ≡ None }
+        ensures step { IfOk result (λ step. reading step message.new self.new ≡ read responses time begins piece.now room self.old) }
         ensures within { IfOk result (λ step. step.used ≤ length piece.now) }
     {
         let has_room = room.text.saturating_sub(self.text) >= PRESENT_ROOM;
         let was_keeping = self.is_keeping(responses);
         let step = if responses {
-            self.responses.read(piece, time, begins, has_room)?
+            (self.responses).read(piece, time, begins, has_room, message)?
         } else {
-            self.requests.read(piece, time, begins, has_room)?
+            (self.requests).read(piece, time, begins, has_room, message)?
         };
         self.recount(responses, room, was_keeping);
         if step.is_bare {
@@ -414,6 +444,7 @@ impl<A: Allocator + Clone> Watch<A> {
     }
 
     /// Pairs a message that has ended, if one has.
+    #[inline(always)]
     fn pair(
         &mut self,
         message: Option<Message<Kept<A>>>,
@@ -422,25 +453,24 @@ impl<A: Allocator + Clone> Watch<A> {
         ensures { IfOk result (λ reported. report_then reported self.new ≡ paired_if message room self.old) }
     {
         let mut reported = None;
-        self.pair_into(message, room, &mut reported)?;
+        if let Some(message) = message {
+            self.pair_into(message, room, &mut reported)?;
+        }
         Ok(reported)
     }
 
-    /// Pairs a message that has ended, if one has. What is reported is written where nothing is yet.
+    /// Pairs a message that has ended, out of line. What is reported is written where nothing is yet.
     #[inline(never)]
     fn pair_into(
         &mut self,
-        message: Option<Message<Kept<A>>>,
+        message: Message<Kept<A>>,
         room: WatchRoom,
         reported: &mut Option<Paired<Kept<A>>>,
     ) -> Result<(), AllocError>
         requires { reported.old ≡ None }
-        ensures { IfOk result (λ _. report_then reported.new self.new ≡ paired_if message room self.old) }
+        ensures { IfOk result (λ _. report_then reported.new self.new ≡ paired_if (Some message) room self.old) }
     {
-        match message {
-            Some(message) => self.pair_one(message, room, reported),
-            None => Ok(()),
-        }
+        self.pair_one(message, room, reported)
     }
 
     /// Pairs a message that has ended. What is reported is written where nothing is yet.

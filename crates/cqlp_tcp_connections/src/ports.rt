@@ -66,7 +66,10 @@ impl<A: Allocator> PortCounts<A> {
             third: (0, 0),
         };
         for port in 0..self.counts.len() {
-            best = best.placed((port as u16, self.counts[port]));
+            let count = self.counts[port];
+            if count > 0 {
+                best = best.placed((port as u16, count));
+            }
         }
         [best.first, best.second, best.third]
     }

@@ -226,8 +226,9 @@ fn hear_gap<O: Target>(
     room: WatchRoom,
     reporter: &mut Reporter<O>,
 ) -> Result<(), StreamsFault> {
-    match watch.gap(responses, length, time, room) {
-        Ok(mut exchange) => reporter.report_messages(connection, None, &mut exchange),
+    let mut exchange = None;
+    match watch.gap_into(responses, length, time, room, &mut exchange) {
+        Ok(()) => reporter.report_messages(connection, None, &mut exchange),
         Err(AllocError) => Err(StreamsFault::NoMemory),
     }
 }

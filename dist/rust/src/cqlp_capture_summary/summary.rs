@@ -24,7 +24,7 @@ pub struct Summary {
     names: Vec<Name>,
     /// The most nanoseconds that each of these may have taken.
     weights: Vec<u64>,
-    /// One for each place.
+    /// One for each place that is taken: memory for those that are free is not touched.
     tallies: Vec<Tally>,
     /// One, of all other statements.
     others: Vec<Tally>,
@@ -47,8 +47,8 @@ impl Summary {
             statements,
             names: Vec::kit_with_capacity(statements)?,
             weights: Vec::kit_with_capacity(statements)?,
-            tallies: make_tallies(statements)?,
-            others: make_tallies(1)?,
+            tallies: Vec::kit_with_capacity(statements)?,
+            others: make_others()?,
             slots: make_slots()?,
             recent: make_recent(if statements == 0 { 0 } else { RECENT })?,
         })
@@ -142,6 +142,7 @@ impl Summary {
     fn kit_push(&mut self, name: Name) {
         self.names.push_reserved(name);
         self.weights.push_reserved(0);
+        self.tallies.push_reserved(Tally::new());
     }
 
     /// Takes a statement in at a place whose counts go to the others.
@@ -274,13 +275,12 @@ impl Summary {
 
     /// Writes a line for each statement, the one that took most time in sum first, and a line for all others. Above the names is this heading.
     pub fn put<P: Pen>(&self, writer: &mut TextWriter<P>, heading: &str) -> Result<(), SinkFault> {
-        let known = &self.tallies[..self.names.len()];
         put_summary(
             writer,
             heading,
             &self.names,
             &self.weights,
-            known,
+            &self.tallies,
             &self.others[0],
         )
     }
@@ -307,10 +307,8 @@ fn make_recent(count: usize) -> Result<Vec<Recent>, AllocError> {
     Ok(recent)
 }
 
-fn make_tallies(count: usize) -> Result<Vec<Tally>, AllocError> {
-    let mut tallies = Vec::kit_with_capacity(count)?;
-    for _ in 0..count {
-        tallies.push_reserved(Tally::new());
-    }
-    Ok(tallies)
+fn make_others() -> Result<Vec<Tally>, AllocError> {
+    let mut others = Vec::kit_with_capacity(1)?;
+    others.push_reserved(Tally::new());
+    Ok(others)
 }

@@ -136,6 +136,28 @@ impl Heads {
         }
     }
 
+    /// Takes the bytes of the body that passes, and says how many these are, if more of it are to come and some are here.
+    #[inline(always)]
+    pub(crate) fn pass_body(&mut self, piece: &[u8], time: Option<u64>) -> Option<usize> {
+        match self.stage.left() {
+            Some(left) if left > 0 && !piece.is_empty() => Some(self.pass_some(left, piece, time)),
+            _ => None,
+        }
+    }
+
+    /// Takes bytes that are all stray, and says whether these are: where no frame is known to begin, and they do not begin a segment with a header.
+    #[inline(always)]
+    pub(crate) fn pass_stray(&mut self, piece: &[u8], begins: bool) -> bool {
+        if piece.is_empty()
+            || !self.stage.is_lost()
+            || self.head_at_begin(piece, begins).is_some()
+        {
+            return false;
+        }
+        self.count(piece.len() as u64);
+        true
+    }
+
     /// The header of the frame that lies whole in these bytes from the first on, if it is between two frames and one does.
     #[inline(always)]
     pub(crate) fn whole_head(&self, piece: &[u8]) -> Option<Header> {
@@ -169,10 +191,10 @@ impl Heads {
         }
     }
 
-    /// Whether it is between two frames.
+    /// Whether a frame ends of which nothing more comes.
     #[inline(always)]
-    pub(crate) fn is_between(&self) -> bool {
-        self.stage.is_between()
+    pub(crate) fn is_over(&self) -> bool {
+        matches!(self.stage.left(), Some(0))
     }
 
     /// What these bytes are that come next, if none came before.
@@ -187,16 +209,25 @@ impl Heads {
     /// So many bytes did not come, which passed at this time, where that is known. The frame that ends there, or past which no frame is known to begin,
     /// is reported, as `Holed`, unless all its bytes came before.
     pub fn gap(&mut self, length: u64, time: Option<u64>) -> Option<SeenFrame> {
-        self.count(length);
-        match self.stage.take() {
-            Stage::Body { frame, left } if length < left as u64 => {
-                let left = left - length as u32;
-                self.stage = StageRecord::new(Stage::Body {
-                    frame: holed(frame),
-                    left,
-                });
+        match self.stage.left() {
+            Some(left) if length < left as u64 => {
+                self.count(length);
+                self.stage.hole(length as u32);
                 None
             }
+            None if self.stage.is_lost() => {
+                self.count(length);
+                None
+            }
+            _ => self.gap_past(length, time),
+        }
+    }
+
+    /// So many bytes did not come, that do not lie within a body before its last one.
+    #[inline(never)]
+    fn gap_past(&mut self, length: u64, time: Option<u64>) -> Option<SeenFrame> {
+        self.count(length);
+        match self.stage.take() {
             Stage::Body { frame, left } => {
                 let is_end = length == left as u64;
                 let stage = if is_end { Stage::Between } else { Stage::Lost };
@@ -254,8 +285,8 @@ impl Heads {
     /// The header that a segment begins with.
     #[inline(always)]
     fn head_at_begin(&self, piece: &[u8], begins: bool) -> Option<Header> {
-        if begins {
-            HeaderFront::new().with(piece).head(self.responses)
+        if begins && piece.len() >= 9 {
+            read_head(first_nine(piece), self.responses)
         } else {
             None
         }
@@ -339,13 +370,19 @@ impl Heads {
                 heard: Heard::More,
             };
         }
+        HeardStep {
+            used: self.pass_some(left, piece, time),
+            heard: Heard::Body,
+        }
+    }
+
+    /// Takes some bytes of a body, of which so many are still to come.
+    #[inline(always)]
+    fn pass_some(&mut self, left: u32, piece: &[u8], time: Option<u64>) -> usize {
         let used = piece.len().min(left as usize);
         self.count(used as u64);
         self.stage.pass(used as u32, time);
-        HeardStep {
-            used,
-            heard: Heard::Body,
-        }
+        used
     }
 
     #[inline(always)]

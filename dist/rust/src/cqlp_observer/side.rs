@@ -30,12 +30,12 @@ pub(crate) struct Present {
     is_sound: bool,
 }
 
-/// What the first so many bytes of a piece say.
+/// What the first so many bytes of a piece say, beside the message that ends with them.
+#[derive(Clone, Copy)]
 pub(crate) struct SideStep {
     pub(crate) used: usize,
     /// Whether nothing more is said by the piece.
     pub(crate) is_done: bool,
-    pub(crate) message: Option<SeenMessage<Kept>>,
     /// Whether a message begins of which there is no room to keep more than the header.
     pub(crate) is_bare: bool,
 }
@@ -132,10 +132,10 @@ impl Side {
         self.present.is_some()
     }
 
-    /// Whether it is between two frames.
+    /// Whether a frame ends of which nothing more comes.
     #[inline(always)]
-    pub(crate) fn is_between(&self) -> bool {
-        self.heads.is_between()
+    pub(crate) fn is_over(&self) -> bool {
+        self.heads.is_over()
     }
 
     /// What these bytes are that come next, if none came before.
@@ -145,7 +145,7 @@ impl Side {
     }
 
     /// What the next bytes say that came at this time. Of a frame that begins and does not end in the piece more than the header is kept, where
-    /// `has_room`.
+    /// `has_room`. The message that ends with them, if one does, is written where none is yet: it is large, and seldom ends in a piece.
     #[cfg_attr(not(feature = "cli"), inline)]
     pub(crate) fn read(
         &mut self,
@@ -153,17 +153,42 @@ impl Side {
         time: Option<u64>,
         begins: bool,
         has_room: bool,
+        message: &mut Option<SeenMessage<Kept>>,
+    ) -> Result<SideStep, AllocError> {
+        if let Some(used) = self.heads.pass_body(piece, time) {
+            self.keep(&piece[..used])?;
+            return Ok(SideStep::to(used));
+        }
+        if self.heads.pass_stray(piece, begins) {
+            return Ok(SideStep::to(piece.len()));
+        }
+        self.read_head(piece, time, begins, has_room, message)
+    }
+
+    /// What the next bytes say, as `read` says it. It is for those that are neither of a body nor all stray: what these are is large, and would be in
+    /// memory also where it is not needed.
+    #[inline(never)]
+    fn read_head(
+        &mut self,
+        piece: &[u8],
+        time: Option<u64>,
+        begins: bool,
+        has_room: bool,
+        message: &mut Option<SeenMessage<Kept>>,
     ) -> Result<SideStep, AllocError> {
         let step = self.heads.take(piece, time, begins);
         let used = step.used;
         match step.heard {
-            Heard::Begins(header) => self.begin(&header, used, time, piece, has_room),
+            Heard::Begins(header) => self.begin(&header, used, time, piece, has_room, message),
             Heard::Body => {
                 self.keep(&piece[..used])?;
-                Ok(SideStep::nothing(used))
+                Ok(SideStep::to(used))
             }
-            Heard::Ends(frame) => Ok(SideStep::of(used, Some(self.finish(frame)?))),
-            Heard::Stray => Ok(SideStep::nothing(used)),
+            Heard::Ends(frame) => {
+                *message = Some(self.finish(frame)?);
+                Ok(SideStep::to(used))
+            }
+            Heard::Stray => Ok(SideStep::to(used)),
             Heard::More => Ok(SideStep::done(used)),
         }
     }
@@ -189,18 +214,20 @@ impl Side {
         Ok(SeenMessage { frame, kept })
     }
 
-    /// So many bytes did not come, which passed at this time, where that is known: the frame that ends there.
+    /// So many bytes did not come, which passed at this time, where that is known. The message that ends there, if one does, is written where none is
+    /// yet.
     #[cfg_attr(not(feature = "cli"), inline)]
     pub(crate) fn gap(
         &mut self,
         length: u64,
         time: Option<u64>,
-    ) -> Result<Option<SeenMessage<Kept>>, AllocError> {
+        message: &mut Option<SeenMessage<Kept>>,
+    ) -> Result<(), AllocError> {
         self.break_off();
-        match self.heads.gap(length, time) {
-            Some(frame) => Ok(Some(self.finish(frame)?)),
-            None => Ok(None),
+        if let Some(frame) = self.heads.gap(length, time) {
+            *message = Some(self.finish(frame)?);
         }
+        Ok(())
     }
 
     /// No more bytes come: the frame of which some did.
@@ -221,11 +248,12 @@ impl Side {
         time: Option<u64>,
         piece: &[u8],
         has_room: bool,
+        message: &mut Option<SeenMessage<Kept>>,
     ) -> Result<SideStep, AllocError> {
         let length = header.length as usize;
         if length <= piece.len() - used {
             let end = used + length;
-            return self.take_whole(header, end, time, &piece[used..end]);
+            return self.take_whole(header, end, time, &piece[used..end], message);
         }
         if !has_room {
             self.present = None;
@@ -233,7 +261,7 @@ impl Side {
         }
         let present = Present::new(header)?;
         self.present = Some(Box::kit_new(present)?);
-        Ok(SideStep::nothing(used))
+        Ok(SideStep::to(used))
     }
 
     /// All of a body that has begun is there, which ends after so many bytes of the piece: its frame ends.
@@ -244,14 +272,14 @@ impl Side {
         end: usize,
         time: Option<u64>,
         body: &[u8],
+        message: &mut Option<SeenMessage<Kept>>,
     ) -> Result<SideStep, AllocError> {
         self.present = None;
         let kept = self.kept_of_whole(*header, body)?;
-        let message = match self.heads.pass_whole(time) {
-            Some(frame) => Some(SeenMessage { frame, kept }),
-            None => None,
-        };
-        Ok(SideStep::of(end, message))
+        if let Some(frame) = self.heads.pass_whole(time) {
+            *message = Some(SeenMessage { frame, kept });
+        }
+        Ok(SideStep::to(end))
     }
 
     /// What is kept of a message with this header and body.
@@ -295,13 +323,12 @@ impl Side {
 }
 
 impl SideStep {
-    /// No message in so many bytes.
+    /// So many bytes, which may not be all.
     #[inline(always)]
-    fn nothing(used: usize) -> Self {
+    fn to(used: usize) -> Self {
         SideStep {
             used,
             is_done: false,
-            message: None,
             is_bare: false,
         }
     }
@@ -312,7 +339,6 @@ impl SideStep {
         SideStep {
             used,
             is_done: true,
-            message: None,
             is_bare: false,
         }
     }
@@ -323,19 +349,7 @@ impl SideStep {
         SideStep {
             used,
             is_done: false,
-            message: None,
             is_bare: true,
-        }
-    }
-
-    /// A message that ended after so many bytes, if one did.
-    #[inline(always)]
-    fn of(used: usize, message: Option<SeenMessage<Kept>>) -> Self {
-        SideStep {
-            used,
-            is_done: false,
-            message,
-            is_bare: false,
         }
     }
 }

@@ -93,6 +93,20 @@ impl StageRecord {
         }
     }
 
+    /// So many bytes do not come of the body that passes, before its last one.
+    #[inline(always)]
+    pub(crate) fn hole(&mut self, length: u32) {
+        if let StageParts::Body { passing } = &mut self.parts {
+            passing.extent = Extent::Holed;
+            passing.left = passing.left.saturating_sub(length);
+        }
+    }
+
+    #[inline(always)]
+    pub(crate) fn is_lost(&self) -> bool {
+        matches!(self.parts, StageParts::Lost)
+    }
+
     #[inline(always)]
     pub(crate) fn is_between(&self) -> bool {
         matches!(self.parts, StageParts::Between)

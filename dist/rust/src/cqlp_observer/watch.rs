@@ -145,15 +145,40 @@ impl Watch {
         time: Option<u64>,
         room: WatchRoom,
     ) -> Result<Option<Paired<Kept>>, AllocError> {
+        let mut reported = None;
+        self.gap_into(responses, length, time, room, &mut reported)?;
+        Ok(reported)
+    }
+
+    /// So many bytes of a direction did not come, as `gap` says it. What is reported is put where `reported` is, in place of what is there, and is not
+    /// moved.
+    ///
+    /// # Errors
+    ///
+    /// Memory that is refused.
+    #[cfg_attr(not(feature = "cli"), inline)]
+    pub fn gap_into(
+        &mut self,
+        responses: bool,
+        length: u64,
+        time: Option<u64>,
+        room: WatchRoom,
+        reported: &mut Option<Paired<Kept>>,
+    ) -> Result<(), AllocError> {
+        *reported = None;
         self.missed.count_gap()?;
         let was_keeping = self.is_keeping(responses);
-        let message = if responses {
-            self.responses.gap(length, time)?
+        let mut message = None;
+        if responses {
+            self.responses.gap(length, time, &mut message)?;
         } else {
-            self.requests.gap(length, time)?
-        };
+            self.requests.gap(length, time, &mut message)?;
+        }
         self.recount(responses, room, was_keeping);
-        self.pair(message, room)
+        match message {
+            Some(message) => self.pair_into(message, room, reported),
+            None => Ok(()),
+        }
     }
 
     /// No more bytes of a direction come.
@@ -243,12 +268,14 @@ impl Watch {
         opening: Opening,
         reported: &mut Option<Paired<Kept>>,
     ) -> Result<WatchProgress, AllocError> {
-        let step = self.read(responses, piece, time, begins, room)?;
-        let (used, is_done) = (step.used, step.is_done);
-        self.pair_into(step.message, room, reported)?;
+        let mut message = None;
+        let step = self.read(responses, piece, time, begins, room, &mut message)?;
+        if let Some(message) = message {
+            self.pair_into(message, room, reported)?;
+        }
         Ok(WatchProgress {
-            used,
-            is_done,
+            used: step.used,
+            is_done: step.is_done,
             opening,
         })
     }
@@ -285,14 +312,14 @@ impl Watch {
         self.pair_one(message, room, reported)
     }
 
-    /// Whether these are no bytes, and the direction is between two frames: then nothing more is reported.
+    /// Whether these are no bytes, and no frame of the direction ends: then nothing more is reported.
     #[inline(always)]
     fn is_done(&self, responses: bool, piece: &[u8]) -> bool {
         piece.is_empty()
             && if responses {
-                self.responses.is_between()
+                !self.responses.is_over()
             } else {
-                self.requests.is_between()
+                !self.requests.is_over()
             }
     }
 
@@ -327,7 +354,7 @@ impl Watch {
         );
     }
 
-    /// What the next bytes of a direction say.
+    /// What the next bytes of a direction say. The message that ends with them is written where none is yet.
     #[inline(always)]
     fn read(
         &mut self,
@@ -336,13 +363,14 @@ impl Watch {
         time: Option<u64>,
         begins: bool,
         room: WatchRoom,
+        message: &mut Option<SeenMessage<Kept>>,
     ) -> Result<SideStep, AllocError> {
         let has_room = room.text.saturating_sub(self.text) >= PRESENT_ROOM;
         let was_keeping = self.is_keeping(responses);
         let step = if responses {
-            self.responses.read(piece, time, begins, has_room)?
+            (self.responses).read(piece, time, begins, has_room, message)?
         } else {
-            self.requests.read(piece, time, begins, has_room)?
+            (self.requests).read(piece, time, begins, has_room, message)?
         };
         self.recount(responses, room, was_keeping);
         if step.is_bare {
@@ -352,29 +380,28 @@ impl Watch {
     }
 
     /// Pairs a message that has ended, if one has.
-    #[cfg_attr(not(feature = "cli"), inline)]
+    #[inline(always)]
     fn pair(
         &mut self,
         message: Option<SeenMessage<Kept>>,
         room: WatchRoom,
     ) -> Result<Option<Paired<Kept>>, AllocError> {
         let mut reported = None;
-        self.pair_into(message, room, &mut reported)?;
+        if let Some(message) = message {
+            self.pair_into(message, room, &mut reported)?;
+        }
         Ok(reported)
     }
 
-    /// Pairs a message that has ended, if one has. What is reported is written where nothing is yet.
+    /// Pairs a message that has ended, out of line. What is reported is written where nothing is yet.
     #[inline(never)]
     fn pair_into(
         &mut self,
-        message: Option<SeenMessage<Kept>>,
+        message: SeenMessage<Kept>,
         room: WatchRoom,
         reported: &mut Option<Paired<Kept>>,
     ) -> Result<(), AllocError> {
-        match message {
-            Some(message) => self.pair_one(message, room, reported),
-            None => Ok(()),
-        }
+        self.pair_one(message, room, reported)
     }
 
     /// Pairs a message that has ended. What is reported is written where nothing is yet.
