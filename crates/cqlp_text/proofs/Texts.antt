@@ -1,15 +1,14 @@
 -- Texts in parts.
-use Rattle.std.proofs.Common.{◌≡◌, ℕ, List, [], ◌∷◌, ◌++◌, map, codes, decimal, suc, ◌+◌, Bool, true, false, cond, if◌then◌else◌, ◌<◌, ◌≤◌, ◌-◌, ◌*◌, length, take, drop, slice_index, refl, sym, ap, ◌∙◌, append-nil, append_assoc, arith, length-append, length-drop}
-use Rattle.hex.proofs.HexLemmas.{length-encode_with}
+use Rattle.std.proofs.Common.{◌≡◌, ℕ, List, [], ◌∷◌, ◌++◌, map, codes, decimal, suc, ◌+◌, Bool, true, false, cond, if◌then◌else◌, ◌<◌, ◌≤◌, ◌-◌, length, take, drop, slice_index, refl, sym, ap, ◌∙◌, append-nil, append_assoc, arith}
+use Rattle.std.proofs.lemmas.List.{take-append-drop}
 use Rattle.cqlp_text.specs.declared.word.Word.{Word}
 use Rattle.cqlp_text.specs.Lines.{spaced}
 use Rattle.cqlp_text.specs.Words.{word_text}
 use Rattle.std.proofs.Math.Seq.{drop-cons}
 use Rattle.std.proofs.Common.{get_or, add-one}
-use Rattle.cqlp_text.proofs.Writing.{rest_after}
 use Rattle.std.proofs.lemmas.Grind.{common_steps}
 use Rattle.std.specs.List.{join_with_byte, flat_map, prefix_len}
-use Rattle.hex.specs.Hex.{encode_lower, encode_with, lower_digits}
+use Rattle.hex.specs.Hex.{encode_lower, encode_with}
 use Rattle.cqlp_text.specs.Text.{pairs, is_plain, escaped, printed, in_one_line}
 
 -- the bytes two by two, as four digits after a colon
@@ -64,22 +63,11 @@ unfolding encode_with
 encode_lower-append [] ys = refl
 encode_lower-append (x ∷ xs) ys = ap (λ t. encode_lower (x ∷ []) ++ t) (encode_lower-append xs ys)
 
--- the digits of the first n bytes are at the front of a buffer
-pub hex_chunk : (rest out later : List ℕ) (n : ℕ) → out ≡ encode_lower (take n rest) → length (take n rest) ≡ n → encode_lower rest ≡ take (2 * n) (out ++ later) ++ encode_lower (take (length rest - n) (drop n rest))
-hex_chunk rest out later n same size =
-    let long : length out ≡ 2 * n = omega (arith, ap length same, length-encode_with lower_digits (take n rest)) in
-    let front : take (2 * n) (out ++ later) ≡ out = grind (arith, common_steps) in
-    ap encode_lower (rest_after rest n) ∙ encode_lower-append _ _ ∙ ap (λ t. t ++ encode_lower (take (length rest - n) (drop n rest))) (sym (front ∙ same))
-
-pub hex_room : (out digits chunk : List ℕ) (n : ℕ) → out ≡ encode_lower chunk → length chunk ≡ n → n ≤ 64 → length digits ≡ 128 → length (out ++ drop (2 * n) digits) ≡ 128
-hex_room out digits chunk n same size small room =
-    let long : length out ≡ 2 * n = omega (arith, ap length same, length-encode_with lower_digits chunk) in
-    simp (length-append, length-drop) (omega arith)
-
-pub encode_lower-none : (bytes : List ℕ) → bytes ≡ [] → encode_lower bytes ≡ []
-unfolding encode_with
-encode_lower-none [] none = refl
-encode_lower-none (b ∷ bytes) none = cc
+-- the digits of the first 64 bytes, and of those behind them
+pub hex_block : (rest out block behind : List ℕ) → out ≡ encode_lower block → block ≡ take 64 rest → behind ≡ drop 64 rest → encode_lower rest ≡ out ++ encode_lower behind
+hex_block rest out block behind same front left =
+    ap encode_lower (sym (take-append-drop 64 rest)) ∙ encode_lower-append (take 64 rest) (drop 64 rest)
+    ∙ ap (λ t. t ++ encode_lower (drop 64 rest)) (ap encode_lower (sym front) ∙ sym same) ∙ ap (λ t. out ++ encode_lower t) (sym left)
 
 -- ---- plain bytes
 

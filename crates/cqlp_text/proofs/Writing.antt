@@ -1,5 +1,5 @@
 -- Writing one text after another.
-use Rattle.std.proofs.Common.{◌≡◌, nat_lt, ℕ, ◌+◌, ◌-◌, Bool, ◌<◌, drop, true, List, [], ◌∷◌, ◌++◌, length, take, Option, Some, None, IsSome, Result, Ok, Err, IsErr, refl, sym, ◌∙◌, ap, subst, append_assoc, append-nil, arith, length-drop, ◌≤◌}
+use Rattle.std.proofs.Common.{◌≡◌, nat_lt, ℕ, ◌+◌, Bool, ◌<◌, drop, true, List, [], ◌∷◌, ◌++◌, length, take, Option, Some, None, IsSome, Result, Ok, Err, IsErr, refl, sym, ◌∙◌, ap, subst, append_assoc, append-nil, arith, length-drop, ◌≤◌}
 use Rattle.std.proofs.lemmas.Grind.{common_steps}
 use Rattle.std.proofs.lemmas.List.{take-append-drop}
 use Rattle.std.proofs.lemmas.Bool.{lt-ltb, le-ltb}
@@ -148,12 +148,6 @@ room_left xs len n room within size some = grind (arith, common_steps)
 
 pub front_of : (xs ys : List ℕ) (k : ℕ) → length xs ≡ k → take k (xs ++ ys) ≡ xs
 front_of xs ys k long = grind (arith, common_steps)
-
--- what is left after the first n
-pub rest_after : (rest : List ℕ) (n : ℕ) → rest ≡ take n rest ++ take (length rest - n) (drop n rest)
-rest_after rest n =
-    let later : take (length rest - n) (drop n rest) ≡ drop n rest = grind (arith, common_steps) in
-    sym (ap (λ t. take n rest ++ t) later ∙ take-append-drop n rest)
 
 -- what waited is passed on, and nothing waits
 pub passes_waiting : (given given' : Option (List ℕ)) (f f' lender : ℕ) (waiting none : List ℕ) (r : Result (Unit {0}) SinkFault) → none ≡ [] → Writes (bare given f) waiting r (bare given' f') → Writes (record { given = given; failures = f; waiting = waiting; lender = lender }) [] r (record { given = given'; failures = f'; waiting = none; lender = lender })

@@ -1,6 +1,6 @@
 //! Values as text.
 
-ghost use Rattle.std.specs.Prelude.{◌≡◌, length, decimal};
+ghost use Rattle.std.specs.Prelude.{◌≡◌, ◌<◌, length, decimal};
 ghost use Rattle.std.specs.Fmt.{signed_decimal};
 ghost use Rattle.std.specs.List.{flat_map};
 ghost use Rattle.hex.specs.Hex.{encode_lower};
@@ -9,14 +9,12 @@ ghost use Rattle.cqlp_text.specs.Text.{hex_text, quoted, address_text};
 ghost use Rattle.cqlp_note.specs.declared.prim.Address.TheVariants.{V4, V6};
 ghost use Rattle.cqlp_text.specs.Written.{Writes};
 
+use crate::hex_digits::{BLOCK, digits_of};
 use crate::pen::Pen;
 use crate::text_writer::TextWriter;
 use cqlp_grammar::SinkFault;
 use cqlp_note::Address;
 use uuid::Uuid;
-
-/// How many bytes become hex digits at once.
-const CHUNK: usize = 64;
 
 impl<P: Pen> TextWriter<P> {
     /// Takes a number as decimal digits, after a `-` where it is negative.
@@ -60,15 +58,24 @@ impl<P: Pen> TextWriter<P> {
     pub fn put_hex(&mut self, bytes: &[u8]) -> Result<(), SinkFault>
         ensures { Writes self.old (encode_lower bytes.now) result self.new }
     {
-        let mut digits = [0; 2 * CHUNK];
         let mut rest = bytes;
-        while !rest.is_empty() {
-            let len = rest.len().min(CHUNK);
-            hex::encode_to_slice(&rest[..len], &mut digits[..2 * len]).unwrap();
-            self.put(&digits[..2 * len])?;
-            rest = &rest[len..];
+        while let Some((block, behind)) = rest.split_first_chunk::<BLOCK>() {
+            self.put(&digits_of(block))?;
+            rest = behind;
         }
-        Ok(())
+        self.put_few_as_hex(rest)
+    }
+
+    /// Takes fewer bytes than a block as two lower case hexadecimal digits each.
+    #[inline(always)]
+    fn put_few_as_hex(&mut self, bytes: &[u8]) -> Result<(), SinkFault>
+        requires { length bytes.now < 64 }
+        ensures { Writes self.old (encode_lower bytes.now) result self.new }
+    {
+        let mut room = [0; 2 * BLOCK];
+        let digits = &mut room[..2 * bytes.len()];
+        hex::encode_to_slice(bytes, digits).unwrap();
+        self.put(digits)
     }
 
     /// Takes bytes as `0x` and two lower case hexadecimal digits each.

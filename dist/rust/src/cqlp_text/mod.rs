@@ -10,6 +10,7 @@ mod escape;
 mod events;
 pub mod exit_status;
 mod gap;
+mod hex_digits;
 mod items;
 mod line_pen;
 mod names;

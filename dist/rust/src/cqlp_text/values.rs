@@ -1,14 +1,12 @@
 // Written by dist/erase from crates/cqlp_text/src/values.rt.
 //! Values as text.
 
+use crate::cqlp_text::hex_digits::{BLOCK, digits_of};
 use crate::cqlp_text::pen::Pen;
 use crate::cqlp_text::text_writer::TextWriter;
 use crate::cqlp_grammar::SinkFault;
 use crate::cqlp_note::Address;
 use crate::uuid::Uuid;
-
-/// How many bytes become hex digits at once.
-const CHUNK: usize = 64;
 
 impl<P: Pen> TextWriter<P> {
     /// Takes a number as decimal digits, after a `-` where it is negative.
@@ -42,15 +40,21 @@ impl<P: Pen> TextWriter<P> {
     /// Takes bytes as two lower case hexadecimal digits each.
     #[inline(never)]
     pub fn put_hex(&mut self, bytes: &[u8]) -> Result<(), SinkFault> {
-        let mut digits = [0; 2 * CHUNK];
         let mut rest = bytes;
-        while !rest.is_empty() {
-            let len = rest.len().min(CHUNK);
-            crate::hex::encode_to_slice(&rest[..len], &mut digits[..2 * len]).unwrap();
-            self.put(&digits[..2 * len])?;
-            rest = &rest[len..];
+        while let Some((block, behind)) = rest.split_first_chunk::<BLOCK>() {
+            self.put(&digits_of(block))?;
+            rest = behind;
         }
-        Ok(())
+        self.put_few_as_hex(rest)
+    }
+
+    /// Takes fewer bytes than a block as two lower case hexadecimal digits each.
+    #[inline(always)]
+    fn put_few_as_hex(&mut self, bytes: &[u8]) -> Result<(), SinkFault> {
+        let mut room = [0; 2 * BLOCK];
+        let digits = &mut room[..2 * bytes.len()];
+        crate::hex::encode_to_slice(bytes, digits).unwrap();
+        self.put(digits)
     }
 
     /// Takes bytes as `0x` and two lower case hexadecimal digits each.
