@@ -22,6 +22,9 @@ pub(crate) fn pattern(matches: &ArgMatches<'_>) -> Result<Option<Pattern>, BadVa
     }
 }
 
+/// The pattern of a text. It is out of line, since a caller's stack is touched as far as it may be needed, here for tables of 55 KB.
+#[cold]
+#[inline(never)]
 fn pattern_in(text: &str) -> Result<Pattern, BadValue> {
     match Pattern::new(text) {
         Ok(pattern) => Ok(pattern),
