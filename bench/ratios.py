@@ -152,7 +152,7 @@ def columns_table(programs, pages, rounds):
 def text_table(programs, pages, rounds):
     table('text', *BESIDE_HAND)
     for command in ('show', 'rows'):
-        for name in ('rows', 'collections', 'columns', 'kinds'):
+        for name in PAGES:
             tasks = [lambda: spent([programs.text, command, pages[name]]), *programs.of_both(command, pages[name])]
             print_beside_hand(f'`{command}` {name}', least(rounds, tasks))
 
