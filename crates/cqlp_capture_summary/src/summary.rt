@@ -55,7 +55,8 @@ impl<A: Allocator> Model for Summary<A> {
 
     ghost Value = { Summary };
 
-    ghost view = { λ s. summary s.statements s.names.items s.weights.items (padded s.statements s.tallies.items) (slice_index_or s.others.items 0 none_counted) };
+    ghost view = { λ s. summary s.statements s.names.items s.weights.items (padded s.statements s.tallies.items)
+        (slice_index_or s.others.items 0 none_counted) };
 
     ghost invariant = { λ s. (length s.names.items ≤ s.statements) × (vec_capacity s.names ≡ s.statements)
         × (length s.weights.items ≡ length s.names.items) × (vec_capacity s.weights ≡ s.statements)
