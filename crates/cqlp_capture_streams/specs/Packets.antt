@@ -12,6 +12,7 @@ use Rattle.cqlp_packet_order.specs.Packets as kept
 use Rattle.cqlp_packet_order.specs.Packets.{packet}
 use Rattle.cqlp_packet_order.specs.Orders.{Order, Release, arrived, due_left, first_left, releasing}
 use Rattle.cqlp_tcp_connections.specs.Ends.{first_way}
+use Rattle.cqlp_tcp_connections.specs.Ports.{busiest}
 use Rattle.cqlp_tcp_connections.specs.Totals.{counted}
 use Rattle.cqlp_tcp_connections.specs.Tables.{Table}
 use Rattle.cqlp_capture_streams.specs.declared.packets.PacketCounts.{PacketCounts}
@@ -33,6 +34,12 @@ pub record SplitState : Type 0 where
 abbrev pub split_state : Table → Order → (link : ℕ) → (time : Option ℕ) → (original : ℕ) → PacketCounts → SplitState
 split_state t o link time original counts =
     record { table = t; order = o; link = link; time = time; original = original; counts = counts }
+
+-- where no connection began, the three ports that most segments had, and how many; else 0 with 0
+abbrev pub busiest_elsewhere : Table → List (ℕ × ℕ)
+busiest_elsewhere t =
+    if nat_lt 0 t.counts.connections then (0, 0) ∷ (0, 0) ∷ (0, 0) ∷ []
+    else busiest t.foreign
 
 abbrev pub none_without : WithoutCounts
 none_without = record {

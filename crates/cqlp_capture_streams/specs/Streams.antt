@@ -3,7 +3,6 @@ use Rattle.std.specs.Prelude.{◌≡◌, ℕ, List, Option, Some, Result, Ok, Er
 use Rattle.cqlp_text.specs.Outputs.{Output}
 use Rattle.cqlp_capture.specs.declared.event.CaptureEnd.{CaptureEnd}
 use Rattle.cqlp_capture.specs.declared.limits.CaptureLimits.{CaptureLimits}
-use Rattle.cqlp_tcp_connections.specs.Ports.{busiest}
 use Rattle.cqlp_tcp_connections.specs.Tables.{new_table}
 use Rattle.cqlp_packet_order.specs.Orders.{new_order}
 use Rattle.cqlp_capture_streams.specs.declared.capturing.CaptureRead.{CaptureRead}
@@ -14,7 +13,7 @@ use Rattle.cqlp_capture_streams.specs.declared.recorder.Sums.{Sums}
 use Rattle.cqlp_capture_streams.specs.Files.{Call}
 use Rattle.cqlp_capture_streams.specs.ConnectionEvents.{ConnectionEvent}
 use Rattle.cqlp_capture_streams.specs.Recordings.{StopsAt, no_sums, recording, with_connection_event}
-use Rattle.cqlp_capture_streams.specs.Packets.{SplitState, new_split}
+use Rattle.cqlp_capture_streams.specs.Packets.{SplitState, busiest_elsewhere, new_split}
 use Rattle.cqlp_capture_streams.specs.Captures.{ReadsMade, SplitsTo, no_reads}
 use Rattle.cqlp_capture_streams.specs.Endings.{Concludes, sums_words}
 
@@ -32,7 +31,7 @@ no_connections limits ports = new_split (new_table limits.connections ports) (ne
 
 abbrev pub read_of : Result CaptureEnd StreamsFault → SplitState → Result CaptureRead StreamsFault
 read_of (Ok e) u =
-    Ok (record { end = e; packets = u.counts; order = u.order.counts; connections = u.table.counts; busiest = busiest u.table.foreign })
+    Ok (record { end = e; packets = u.counts; order = u.order.counts; connections = u.table.counts; busiest = busiest_elsewhere u.table })
 read_of (Err f) u = Err f
 
 -- What a listener has got of an input with the bytes xs, under these limits, by so many reads, and what that was; or memory was wanting, and nothing was read or reported. A listener's view goes on by `after`, and a fault leaves what `faulted` says.

@@ -39,8 +39,7 @@ impl<A: Allocator> Model for Splitter<A> {
 }
 
 impl<A: Allocator> Splitter<A> {
-    ghost use Rattle.cqlp_tcp_connections.specs.Ports.{busiest};
-    ghost use Rattle.cqlp_capture_streams.specs.Packets.{is_snapped, new_split, with_next_file};
+    ghost use Rattle.cqlp_capture_streams.specs.Packets.{busiest_elsewhere, is_snapped, new_split, with_next_file};
 
     /// At the start of a capture, whose connections have this table, and whose packets this window.
     pub fn new(connections: Connections<A>, order: PacketOrder<A>) -> Self
@@ -77,11 +76,15 @@ impl<A: Allocator> Splitter<A> {
         self.connections.counts()
     }
 
-    /// The ports that most segments of other ports have.
-    pub fn busiest(&self) -> [(u16, u64); 3]
-        ensures { result ≡ busiest self.now.table.foreign }
+    /// Where no connection began, the ports that most segments have. Else none, since they are not written then.
+    pub fn busiest_elsewhere(&self) -> [(u16, u64); 3]
+        ensures { result ≡ busiest_elsewhere self.now.table }
     {
-        self.connections.busiest()
+        if self.connections.counts().connections > 0 {
+            [(0, 0), (0, 0), (0, 0)]
+        } else {
+            self.connections.busiest()
+        }
     }
 
     /// Counts a further file, and the one before it where that was cut.

@@ -26,7 +26,7 @@ pub struct CaptureRead {
     pub packets: PacketCounts,
     pub order: OrderCounts,
     pub connections: ConnectionCounts,
-    /// Of the segments of other ports, the ports that most had, and how many. 0 with 0, where there are fewer.
+    /// Where no connection began, the ports that most segments had, and how many. 0 with 0, where there are fewer, and where one began.
     pub busiest: [(u16, u64); 3],
 }
 
@@ -91,7 +91,7 @@ fn read_of(
             packets: splitter.packet_counts(),
             order: splitter.order_counts(),
             connections: splitter.connection_counts(),
-            busiest: splitter.busiest(),
+            busiest: splitter.busiest_elsewhere(),
         }),
     }
 }

@@ -52,9 +52,13 @@ impl Splitter {
         self.connections.counts()
     }
 
-    /// The ports that most segments of other ports have.
-    pub fn busiest(&self) -> [(u16, u64); 3] {
-        self.connections.busiest()
+    /// Where no connection began, the ports that most segments have. Else none, since they are not written then.
+    pub fn busiest_elsewhere(&self) -> [(u16, u64); 3] {
+        if self.connections.counts().connections > 0 {
+            [(0, 0), (0, 0), (0, 0)]
+        } else {
+            self.connections.busiest()
+        }
     }
 
     /// Counts a further file, and the one before it where that was cut.
