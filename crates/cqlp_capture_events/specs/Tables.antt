@@ -1,4 +1,4 @@
--- The connections that are watched, by their numbers.
+-- The connections that are watched, by their numbers, the newest first.
 use Rattle.std.specs.Prelude.{◌≡◌, ℕ, ◌+◌, ◌-◌, ◌||◌, nat_lt, Bool, true, false, List, [], Option, Some, None, is_some, if◌then◌else◌}
 use Rattle.std.specs.BTreeMap.{insert_entry, is_at}
 use Rattle.std.specs.Map.{lookup, remove_entry, set_value}
@@ -7,6 +7,7 @@ use Rattle.cqlp_note.specs.Streams.{counted_up}
 use Rattle.cqlp_tcp_connections.specs.declared.ends.Way.{Way}
 use Rattle.cqlp_tcp_connections.specs.declared.ends.Way.TheVariants.{Requests, Responses}
 use Rattle.cqlp_tcp_connections.specs.declared.delivery.Delivery.{Delivery}
+use Rattle.cqlp_capture_streams.specs.NewestFirst.{newest_first}
 use Rattle.cqlp_capture_frames.specs.Directions.{Direction, Reporting, begun, step_reported}
 use Rattle.cqlp_capture_events.specs.declared.limits.TheConstants.{OPEN_FRAMES}
 use Rattle.cqlp_capture_events.specs.declared.lines.Lines.{Lines}
@@ -61,7 +62,7 @@ heard_of Responses room t b unread s =
 abbrev pub heard : (room : Bool) → Delivery → List ℕ → (unread : ℕ) → Slot → Heard
 heard room t b unread s = heard_of t.way room t b unread s
 
--- ---- all of them: the connections, the one with the least number first; how many directions read a frame; and how many frames were not read
+-- ---- all of them: the connections, the one with the greatest number first; how many directions read a frame; and how many frames were not read
 
 pub record Table : Type 0 where
   pub slots : List (ℕ × Slot)
@@ -75,7 +76,7 @@ abbrev pub new_table : Table
 new_table = table [] 0 0
 
 abbrev pub slot_of : (number : ℕ) → Table → Option Slot
-slot_of n w = lookup (is_at (nat_cmp n)) w.slots
+slot_of n w = lookup (is_at (nat_cmp (newest_first n))) w.slots
 
 -- of a connection `before` directions read a frame, and `now` they do
 abbrev pub reading_after : (before now : ℕ) → (reading : ℕ) → ℕ
@@ -91,12 +92,12 @@ change text w = record { text = text; table = w }
 
 -- a connection begins
 abbrev pub begins : (number : ℕ) → Table → Table
-begins n w = table (insert_entry nat_cmp w.slots n fresh) w.reading w.unread
+begins n w = table (insert_entry nat_cmp w.slots (newest_first n) fresh) w.reading w.unread
 
 -- its streams deliver something; where it is not watched, there is no line
 abbrev pub becomes : (number : ℕ) → Slot → Heard → Table → Change
 becomes n s h w =
-    change h.text (table (set_value (is_at (nat_cmp n)) w.slots h.slot) (reading_after (open_in s) (open_in h.slot) w.reading) h.unread)
+    change h.text (table (set_value (is_at (nat_cmp (newest_first n))) w.slots h.slot) (reading_after (open_in s) (open_in h.slot) w.reading) h.unread)
 
 abbrev pub reports_at : Option Slot → Delivery → List ℕ → Table → Change
 reports_at None t b w = change [] w
@@ -108,7 +109,7 @@ reports t b w = reports_at (slot_of t.number w) t b w
 -- it leaves
 abbrev pub leaves_at : Option Slot → (number : ℕ) → Table → Table
 leaves_at None n w = w
-leaves_at (Some s) n w = table (remove_entry (is_at (nat_cmp n)) w.slots) (reading_after (open_in s) 0 w.reading) w.unread
+leaves_at (Some s) n w = table (remove_entry (is_at (nat_cmp (newest_first n))) w.slots) (reading_after (open_in s) 0 w.reading) w.unread
 
 abbrev pub leaves : (number : ℕ) → Table → Table
 leaves n w = leaves_at (slot_of n w) n w

@@ -7,13 +7,14 @@ ghost use Rattle.cqlp_capture_frames.specs.Reportings.{is_memory};
 use crate::limits::OPEN_FRAMES;
 use crate::slot::Slot;
 use cqlp_capture_frames::ReportFault;
+use cqlp_capture_streams::newest_first;
 use cqlp_tcp_connections::Delivery;
 use cqlp_text::{Pen, TextWriter};
 use std::alloc::{AllocError, Allocator, Global};
 use std::collections::BTreeMap;
 use std::marker::Model;
 
-/// The connections that are watched, by their numbers. Memory is taken for each as it begins, and for the decoder of a frame as that does, and
+/// The connections that are watched, by their numbers, the newest first. Memory is taken for each as it begins, and for the decoder of a frame as that does, and
 /// is given back.
 #[derive(Drop)]
 pub(crate) struct Table<A: Allocator = Global> {
@@ -62,7 +63,7 @@ impl<A: Allocator + Clone> Table<A> {
         ensures err { OnErr result (self.new ≡ self.old) }
     {
         let slot = Slot::new(self.alloc.clone()?)?;
-        match self.slots.insert(number, slot) {
+        match self.slots.insert(newest_first(number), slot) {
             Ok(_) => Ok(()),
             Err(_) => Err(AllocError),
         }
@@ -78,7 +79,7 @@ impl<A: Allocator + Clone> Table<A> {
         ensures text { Takes is_memory writer.old (reports delivered.now bytes.now self.old).text result writer.new }
         ensures after { OnOk result (self.new ≡ (reports delivered.now bytes.now self.old).table) }
     {
-        match self.slots.get_mut(&delivered.number) {
+        match self.slots.get_mut(&newest_first(delivered.number)) {
             Some(slot) => hear_in(
                 slot,
                 &mut self.reading,
@@ -95,7 +96,7 @@ impl<A: Allocator + Clone> Table<A> {
     pub(crate) fn leave(&mut self, number: u64)
         ensures { self.new ≡ leaves number self.old }
     {
-        if let Some(slot) = self.slots.remove(&number) {
+        if let Some(slot) = self.slots.remove(&newest_first(number)) {
             self.reading = reading_after(self.reading, slot.open(), 0);
         }
     }

@@ -14,6 +14,7 @@ use Rattle.cqlp_tcp_reassembly.specs.declared.step.StreamStep.{StreamStep}
 use Rattle.cqlp_tcp_reassembly.specs.declared.step.StreamStep.TheVariants as step
 use Rattle.cqlp_tcp_connections.specs.declared.delivery.Delivery.{Delivery}
 use Rattle.cqlp_tcp_connections.specs.declared.totals.ConnectionTotals.{ConnectionTotals}
+use Rattle.cqlp_capture_streams.specs.NewestFirst.{newest_first}
 use Rattle.cqlp_observer.specs.declared.room.WatchRoom.{WatchRoom}
 use Rattle.cqlp_observer.specs.Rooms.{IsCounted, StaysWithin, all_text}
 use Rattle.cqlp_observer.specs.Watches.{Watched, heard}
@@ -170,12 +171,12 @@ new_pooled limits are = record {
 
 begins_pooled : (n : ℕ) (w : Table) → slot_of n w ≡ None → IsPooled w → IsPooled (begins n w).table
 begins_pooled n w none k =
-    let long = sum_with waiting_on n new_slot w.slots none in
-    let much = sum_with text_of_slot n new_slot w.slots none in
+    let long = sum_with waiting_on (newest_first n) new_slot w.slots none in
+    let much = sum_with text_of_slot (newest_first n) new_slot w.slots none in
     record {
       limits = k.limits;
-      ordered = sorted_with nat_cmp_total n new_slot w.slots k.ordered;
-      counted = each_with n new_slot w.slots new_counted k.counted;
+      ordered = sorted_with nat_cmp_total (newest_first n) new_slot w.slots k.ordered;
+      counted = each_with (newest_first n) new_slot w.slots new_counted k.counted;
       messages = omega (arith, k.messages, long);
       text = omega (arith, k.text, much);
       few = omega (arith, k.few, long);
@@ -184,7 +185,7 @@ begins_pooled n w none k =
 
 becomes_pooled : (n : ℕ) (s : Slot) (t : Talk) (w : Table) → slot_of n w ≡ Some s → Stays (room_for (held_in s) w.pool) s t.after → IsPooled w → IsPooled (becomes n s t w).table
 becomes_pooled n s t w some p k =
-    let test = is_at (nat_cmp n) in
+    let test = is_at (nat_cmp (newest_first n)) in
     let own = each_at test s w.slots some k.counted in
     let long = sum_set waiting_on test s t.after w.slots some in
     let much = sum_set text_of_slot test s t.after w.slots some in
@@ -204,7 +205,7 @@ becomes_pooled n s t w some p k =
 
 gone_pooled : (n : ℕ) (s : Slot) (t : Talk) (w : Table) → slot_of n w ≡ Some s → IsPooled w → IsPooled (gone n s t w).table
 gone_pooled n s t w some k =
-    let test = is_at (nat_cmp n) in
+    let test = is_at (nat_cmp (newest_first n)) in
     let long = sum_without waiting_on test s w.slots some in
     let much = sum_without text_of_slot test s w.slots some in
     record {
@@ -223,7 +224,7 @@ reports_pooled present delivered b w k = elim (cases_Option (slot_of delivered.n
   | inr some ↦
       let s = some.0 in
       let room = room_for (held_in s) w.pool in
-      let own = each_at (is_at (nat_cmp delivered.number)) s w.slots some.1 k.counted in
+      let own = each_at (is_at (nat_cmp (newest_first delivered.number))) s w.slots some.1 k.counted in
       let t = delivery_heard present delivered room b s in
       subst (λ (o : Option Slot). IsPooled (takes_delivery_at o present delivered b w).table) (sym some.1)
       (becomes_pooled delivered.number s t w some.1 (step_within delivered.step (is_responses delivered.way) present room b s own) k)
@@ -240,7 +241,7 @@ leaves_pooled totals w k = elim (cases_Option (slot_of totals.number w)) [
 
 gets_left : (w : Table) → IsPooled w → GetsWhatIsLeft w
 gets_left w k n s some =
-    let test = is_at (nat_cmp n) in
+    let test = is_at (nat_cmp (newest_first n)) in
     let long = sum_without waiting_on test s w.slots some in
     let much = sum_without text_of_slot test s w.slots some in
     let messages : w.pool.held.messages - waiting_on s ≡ messages_on (others n w) = omega (arith, k.messages, long) in

@@ -7,6 +7,7 @@ use Rattle.std.specs.Map.{keys_of, remove_entry, values_of}
 use Rattle.std.specs.Ordering.{nat_cmp}
 use Rattle.cqlp_tcp_connections.specs.declared.delivery.Delivery.{Delivery}
 use Rattle.cqlp_tcp_connections.specs.declared.totals.ConnectionTotals.{ConnectionTotals}
+use Rattle.cqlp_capture_streams.specs.NewestFirst.{newest_first}
 use Rattle.cqlp_observer.specs.Rooms.{IsCounted}
 use Rattle.cqlp_capture_exchanges.specs.declared.pool.ExchangeLimits.{ExchangeLimits}
 use Rattle.cqlp_capture_exchanges.specs.Pools.{amount, held_in, room_for}
@@ -37,7 +38,7 @@ pub record IsPooled (w : Table) : Type 0 where
 
 -- the other connections
 abbrev pub others : (number : ℕ) → Table → List (ℕ × Slot)
-others n w = remove_entry (is_at (nat_cmp n)) w.slots
+others n w = remove_entry (is_at (nat_cmp (newest_first n))) w.slots
 
 -- A connection may have what the others leave.
 abbrev pub GetsWhatIsLeft : Table → Type 0

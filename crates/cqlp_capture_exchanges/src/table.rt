@@ -9,7 +9,7 @@ use crate::pool::{ExchangeLimits, Pool};
 use crate::report::end_of;
 use crate::reporter::Reporter;
 use crate::slot::Slot;
-use cqlp_capture_streams::StreamsFault;
+use cqlp_capture_streams::{StreamsFault, newest_first};
 use cqlp_note::Target;
 use cqlp_observer::{Missed, WatchRoom};
 use cqlp_tcp_connections::{ConnectionTotals, Delivery, Ends};
@@ -17,7 +17,7 @@ use std::alloc::{AllocError, Allocator, Global};
 use std::collections::BTreeMap;
 use std::marker::Model;
 
-/// The connections that are watched, by their numbers. Memory is taken for each as it begins, and given back as it leaves.
+/// The connections that are watched, by their numbers, the newest first. Memory is taken for each as it begins, and given back as it leaves.
 #[derive(Drop)]
 pub(crate) struct Table<A: Allocator = Global> {
     alloc: A,
@@ -66,7 +66,7 @@ impl<A: Allocator + Clone> Table<A> {
         ensures err { OnErr result (self.new ≡ self.old) }
     {
         let slot = Slot::new(self.alloc.clone()?)?;
-        match self.slots.insert(number, slot) {
+        match self.slots.insert(newest_first(number), slot) {
             Ok(_) => Ok(()),
             Err(_) => Err(AllocError),
         }
@@ -84,7 +84,7 @@ impl<A: Allocator + Clone> Table<A> {
             reporter.new }
         ensures after { IsSome reporter.old.output.given → OnOk result (self.new ≡ (takes_delivery present delivered.now bytes.now self.old).table) }
     {
-        match self.slots.get_mut(&delivered.number) {
+        match self.slots.get_mut(&newest_first(delivered.number)) {
             Some(slot) => hear_in(slot, &mut self.pool, present, delivered, bytes, reporter),
             None => Ok(()),
         }
@@ -99,7 +99,7 @@ impl<A: Allocator + Clone> Table<A> {
         ensures reports { ReportedAll (of_totals totals.now) (leaves totals.now self.old).reports reporter.old result reporter.new }
         ensures after { IsSome reporter.old.output.given → OnOk result (self.new ≡ (leaves totals.now self.old).table) }
     {
-        match self.slots.remove(&totals.number) {
+        match self.slots.remove(&newest_first(totals.number)) {
             Some(slot) => let_leave(slot, &mut self.pool, &mut self.missed, totals, reporter),
             None => Ok(()),
         }

@@ -1,3 +1,4 @@
+pub mod NewestFirst
 pub mod Files
 pub mod Lines
 pub mod ConnectionEvents

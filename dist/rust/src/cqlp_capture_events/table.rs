@@ -4,12 +4,13 @@
 use crate::cqlp_capture_events::limits::OPEN_FRAMES;
 use crate::cqlp_capture_events::slot::Slot;
 use crate::cqlp_capture_frames::ReportFault;
+use crate::cqlp_capture_streams::newest_first;
 use crate::cqlp_tcp_connections::Delivery;
 use crate::cqlp_text::{Pen, TextWriter};
 use crate::kit_std::alloc::{AllocError};
 use crate::kit_std::collections::BTreeMap;
 
-/// The connections that are watched, by their numbers. Memory is taken for each as it begins, and for the decoder of a frame as that does, and
+/// The connections that are watched, by their numbers, the newest first. Memory is taken for each as it begins, and for the decoder of a frame as that does, and
 /// is given back.
 pub(crate) struct Table {
     slots: BTreeMap<u64, Slot>,
@@ -38,7 +39,7 @@ impl Table {
     /// The connection with this number begins. Where memory is refused, nothing changes.
     pub(crate) fn begin(&mut self, number: u64) -> Result<(), AllocError> {
         let slot = Slot::new()?;
-        match self.slots.insert(number, slot) {
+        match self.slots.insert(newest_first(number), slot) {
             Ok(_) => Ok(()),
             Err(_) => Err(AllocError),
         }
@@ -51,7 +52,7 @@ impl Table {
         bytes: &[u8],
         writer: &mut TextWriter<P>,
     ) -> Result<(), ReportFault> {
-        match self.slots.get_mut(&delivered.number) {
+        match self.slots.get_mut(&newest_first(delivered.number)) {
             Some(slot) => hear_in(
                 slot,
                 &mut self.reading,
@@ -66,7 +67,7 @@ impl Table {
 
     /// The connection with this number leaves.
     pub(crate) fn leave(&mut self, number: u64) {
-        if let Some(slot) = self.slots.remove(&number) {
+        if let Some(slot) = self.slots.remove(&newest_first(number)) {
             self.reading = reading_after(self.reading, slot.open(), 0);
         }
     }

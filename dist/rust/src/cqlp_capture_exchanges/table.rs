@@ -6,14 +6,14 @@ use crate::cqlp_capture_exchanges::pool::{ExchangeLimits, Pool};
 use crate::cqlp_capture_exchanges::report::end_of;
 use crate::cqlp_capture_exchanges::reporter::Reporter;
 use crate::cqlp_capture_exchanges::slot::Slot;
-use crate::cqlp_capture_streams::StreamsFault;
+use crate::cqlp_capture_streams::{StreamsFault, newest_first};
 use crate::cqlp_note::Target;
 use crate::cqlp_observer::{Missed, WatchRoom};
 use crate::cqlp_tcp_connections::{ConnectionTotals, Delivery, Ends};
 use crate::kit_std::alloc::{AllocError};
 use crate::kit_std::collections::BTreeMap;
 
-/// The connections that are watched, by their numbers. Memory is taken for each as it begins, and given back as it leaves.
+/// The connections that are watched, by their numbers, the newest first. Memory is taken for each as it begins, and given back as it leaves.
 pub(crate) struct Table {
     slots: BTreeMap<u64, Slot>,
     /// How much of them waits.
@@ -41,7 +41,7 @@ impl Table {
     /// The connection with this number begins. Where memory is refused, nothing changes.
     pub(crate) fn begin(&mut self, number: u64) -> Result<(), AllocError> {
         let slot = Slot::new()?;
-        match self.slots.insert(number, slot) {
+        match self.slots.insert(newest_first(number), slot) {
             Ok(_) => Ok(()),
             Err(_) => Err(AllocError),
         }
@@ -55,7 +55,7 @@ impl Table {
         bytes: &[u8],
         reporter: &mut Reporter<O>,
     ) -> Result<(), StreamsFault> {
-        match self.slots.get_mut(&delivered.number) {
+        match self.slots.get_mut(&newest_first(delivered.number)) {
             Some(slot) => hear_in(slot, &mut self.pool, present, delivered, bytes, reporter),
             None => Ok(()),
         }
@@ -67,7 +67,7 @@ impl Table {
         totals: &ConnectionTotals,
         reporter: &mut Reporter<O>,
     ) -> Result<(), StreamsFault> {
-        match self.slots.remove(&totals.number) {
+        match self.slots.remove(&newest_first(totals.number)) {
             Some(slot) => let_leave(slot, &mut self.pool, &mut self.missed, totals, reporter),
             None => Ok(()),
         }

@@ -45,7 +45,7 @@ impl PortCounts {
         for port in 0..self.counts.len() {
             let count = self.counts[port];
             if count > 0 {
-                best = best.placed((port as u16, count));
+                best.place((port as u16, count));
             }
         }
         [best.first, best.second, best.third]
@@ -61,33 +61,19 @@ struct Three {
 }
 
 impl Three {
-    /// A port goes before those that fewer segments had, of which the last falls out.
-    fn placed(self, port: (u16, u64)) -> Three {
-        let Three {
-            first,
-            second,
-            third,
-        } = self;
-        if first.1 < port.1 {
-            Three {
-                first: port,
-                second: first,
-                third: second,
-            }
-        } else if second.1 < port.1 {
-            Three {
-                first,
-                second: port,
-                third: second,
-            }
-        } else if third.1 < port.1 {
-            Three {
-                first,
-                second,
-                third: port,
-            }
-        } else {
-            self
+    /// A port goes before those that fewer segments had, of which the last falls out. Most ports had none, so this is out of line.
+    #[cold]
+    #[inline(never)]
+    fn place(&mut self, port: (u16, u64)) {
+        if self.first.1 < port.1 {
+            self.third = self.second;
+            self.second = self.first;
+            self.first = port;
+        } else if self.second.1 < port.1 {
+            self.third = self.second;
+            self.second = port;
+        } else if self.third.1 < port.1 {
+            self.third = port;
         }
     }
 }

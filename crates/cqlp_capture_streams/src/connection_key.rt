@@ -1,0 +1,13 @@
+//! An order of connections in which the newest comes first.
+
+ghost use Rattle.std.specs.Prelude.{◌≡◌};
+ghost use Rattle.cqlp_capture_streams.specs.NewestFirst.{newest_first};
+
+/// The key of a connection in a map that is in order: the greater its number, the less its key. Most segments are of the newest connections, and a map finds
+/// its first keys soonest.
+#[inline(always)]
+pub fn newest_first(number: u64) -> u64
+    ensures { result ≡ newest_first number }
+{
+    u64::MAX - number
+}
