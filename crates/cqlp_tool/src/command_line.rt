@@ -134,6 +134,7 @@ where
 }
 
 /// Does the task with a stream: standard input, or a file that is opened.
+#[inline(never)]
 fn stream<R: Files + AllocGlobal, I: Source, O: Target, E: Target>(
     rt: &R,
     options: Options<'_>,
@@ -246,6 +247,8 @@ where
 }
 
 /// Does the task with the captures whose paths the input names, a line each, as their lines come.
+#[cold]
+#[inline(never)]
 fn follow<'a, R: Files + AllocGlobal, I: CaptureInput, O: Target, E: Target>(
     rt: &'a R,
     options: &CaptureOptions<'_>,
@@ -288,6 +291,8 @@ fn follow<'a, R: Files + AllocGlobal, I: CaptureInput, O: Target, E: Target>(
 
 /// Does the task with a file as it grows, or with the captures of a folder, in the order in which they are written, until standard input is a pipe that
 /// has ended.
+#[cold]
+#[inline(never)]
 fn follow_growing<'a, R: Files + AllocGlobal, O: Target, E: Target>(
     rt: &'a R,
     options: &CaptureOptions<'a>,
@@ -324,6 +329,7 @@ fn or_none_named(path: &str) -> &str {
 }
 
 /// Opens files of summaries, and adds these.
+#[inline(never)]
 fn merge<'a, R: Files + AllocGlobal, I: CaptureInput, O: Target, E: Target>(
     rt: &'a R,
     options: MergeOptions<'a>,
@@ -447,7 +453,9 @@ fn regular_length(metadata: io::Result<Metadata>) -> Option<u64> {
     }
 }
 
-/// Does the task with a capture, whose folder is there if it asks for one, where this is known of statements.
+/// Does the task with a capture, whose folder is there if it asks for one, where this is known of statements. Out of line, as what else is seldom called:
+/// each copy would have the options on the stack once more, whose pages cost more than a small capture.
+#[inline(never)]
 fn read_capture<R: Files + AllocGlobal, I: CaptureInput, O: Target, E: Target>(
     rt: &R,
     options: &CaptureOptions<'_>,
@@ -505,6 +513,7 @@ fn read_capture<R: Files + AllocGlobal, I: CaptureInput, O: Target, E: Target>(
 }
 
 /// Splits a capture into the streams of its connections, whose files are made in the folder.
+#[inline(never)]
 fn split_to_folder<R: Files + AllocGlobal, I: CaptureInput, O: Target, E: Target>(
     rt: &R,
     folder: &str,

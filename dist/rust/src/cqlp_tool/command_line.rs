@@ -100,6 +100,7 @@ where
 }
 
 /// Does the task with a stream: standard input, or a file that is opened.
+#[inline(never)]
 fn stream<R: Files, I: Source, O: Target, E: Target>(
     rt: &R,
     options: Options<'_>,
@@ -186,6 +187,8 @@ where
 }
 
 /// Does the task with the captures whose paths the input names, a line each, as their lines come.
+#[cold]
+#[inline(never)]
 fn follow<'a, R: Files, I: CaptureInput, O: Target, E: Target>(
     rt: &'a R,
     options: &CaptureOptions<'_>,
@@ -224,6 +227,8 @@ fn follow<'a, R: Files, I: CaptureInput, O: Target, E: Target>(
 
 /// Does the task with a file as it grows, or with the captures of a folder, in the order in which they are written, until standard input is a pipe that
 /// has ended.
+#[cold]
+#[inline(never)]
 fn follow_growing<'a, R: Files, O: Target, E: Target>(
     rt: &'a R,
     options: &CaptureOptions<'a>,
@@ -256,6 +261,7 @@ fn or_none_named(path: &str) -> &str {
 }
 
 /// Opens files of summaries, and adds these.
+#[inline(never)]
 fn merge<'a, R: Files, I: CaptureInput, O: Target, E: Target>(
     rt: &'a R,
     options: MergeOptions<'a>,
@@ -369,7 +375,9 @@ fn regular_length(metadata: io::Result<Metadata>) -> Option<u64> {
     }
 }
 
-/// Does the task with a capture, whose folder is there if it asks for one, where this is known of statements.
+/// Does the task with a capture, whose folder is there if it asks for one, where this is known of statements. Out of line, as what else is seldom called:
+/// each copy would have the options on the stack once more, whose pages cost more than a small capture.
+#[inline(never)]
 fn read_capture<R: Files, I: CaptureInput, O: Target, E: Target>(
     rt: &R,
     options: &CaptureOptions<'_>,
@@ -418,6 +426,7 @@ fn read_capture<R: Files, I: CaptureInput, O: Target, E: Target>(
 }
 
 /// Splits a capture into the streams of its connections, whose files are made in the folder.
+#[inline(never)]
 fn split_to_folder<R: Files, I: CaptureInput, O: Target, E: Target>(
     rt: &R,
     folder: &str,
