@@ -79,6 +79,7 @@ where
 
 /// Does what a command line asks for: a task with a stream or a capture, which is standard input or a file, or a conversation; or writes why it
 /// starts none. Answers the exit status, and the two outputs.
+#[inline(never)]
 pub(crate) fn execute<R, I: CaptureInput, O: Target, E: Target, N: Target>(
     rt: &R,
     line: Result<CommandLine<'_>, NoTask>,
