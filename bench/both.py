@@ -29,8 +29,8 @@ CAPTURES = {
 }
 ON_CAPTURES = [
     '', '--json', '--csv', '--utc --ends', '--values', '--errors', '--slow 1', '--statement SELECT', '--statement-regex SELECT.*[0-9]', '--opcode QUERY',
-    '--summary', '--summary --json', '--summary --by table', '--summary --by client', '--summary --every 1', '--summary --histogram', '--events', '--events --json',
-    '--rows --connection 1', '--rows --json --connection 1',
+    '--summary', '--summary --json', '--summary --by table', '--summary --by client', '--summary --every 1', '--summary --histogram', '--events',
+    '--rows --connection 1', '--rows --connection 2',
 ]
 
 
